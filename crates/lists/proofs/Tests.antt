@@ -1,0 +1,128 @@
+-- Laws of the tests over lists, `all`, `any` and `member`: over `++`, `map`, `chain` and `build`, and what a passed test says of each element.
+-- Assumes nothing.
+use mathlib.Core.Path.{_≡_, refl, _∙_, sym}
+use mathlib.Core.Logic.{_⊎_, inl, inr, ⊎-elim}
+use mathlib.Core.Bool.{Bool, true, false, _&&_, _||_, and-assoc, or-assoc, or-false}
+use mathlib.Core.List.{List, [], _∷_, _++_, map}
+use Prim.Native.Nat.{ℕ, zero, suc, _+_, _<_}
+use native.Mathlib.Omega.{arith}
+use lib.Dec.{eqb}
+use lib.ListN.{length, getD}
+use borrow.Author.Tests.{eqb-true}
+use Rattle.lists.specs.Lists.{build, all, any, member, chain}
+use Rattle.lists.proofs.Build.{never, never', build-snoc}
+
+pub both : (a b : Bool) → (a && b) ≡ true → (a ≡ true) × (b ≡ true)
+both true b h = (refl, h)
+both false b h = never h
+
+pub both-of : (a b : Bool) → a ≡ true → b ≡ true → (a && b) ≡ true
+both-of a b h k = rw (h, k)
+
+pub or-cases : (a b : Bool) → (a || b) ≡ true → (a ≡ true) ⊎ (b ≡ true)
+or-cases true b h = inl refl
+or-cases false b h = inr h
+
+pub neither : (a b : Bool) → (a || b) ≡ false → (a ≡ false) × (b ≡ false)
+neither true b h = never' h
+neither false b h = (refl, h)
+
+pub neither-of : (a b : Bool) → a ≡ false → b ≡ false → (a || b) ≡ false
+neither-of a b h k = rw (h, k)
+
+-- what is known, in another order
+pub or-swap : (a b c : Bool) → (a || (b || c)) ≡ (b || a || c)
+or-swap true true c = refl
+or-swap true false c = refl
+or-swap false true c = refl
+or-swap false false c = refl
+
+-- two conjunctions, sorted
+and-swap : (a b c d : Bool) → (a && b && (c && d)) ≡ (a && c && (b && d))
+and-swap true true c d = refl
+and-swap true false true d = refl
+and-swap true false false d = refl
+and-swap false b c d = refl
+
+module _ {A : Type 0} where
+  pub all-append : (f : A → Bool) (l m : List A) → all f (l ++ m) ≡ (all f l && all f m)
+  all-append f [] m = refl
+  all-append f (x ∷ l) m = rw (all-append f l m) (sym (and-assoc (f x) (all f l) (all f m)))
+
+  pub any-append : (f : A → Bool) (l m : List A) → any f (l ++ m) ≡ (any f l || any f m)
+  any-append f [] m = refl
+  any-append f (x ∷ l) m = rw (any-append f l m) (sym (or-assoc (f x) (any f l) (any f m)))
+
+  pub all-and : (f g : A → Bool) (l : List A) → all (λ (x : A). f x && g x) l ≡ (all f l && all g l)
+  all-and f g [] = refl
+  all-and f g (x ∷ l) = rw (all-and f g l) (and-swap (f x) (g x) (all f l) (all g l))
+
+  pub all-implies : (f g : A → Bool) (l : List A) → ((x : A) → f x ≡ true → g x ≡ true) → all f l ≡ true → all g l ≡ true
+  all-implies f g [] i h = refl
+  all-implies f g (x ∷ l) i h =
+      let p = both (f x) (all f l) h in
+      both-of (g x) (all g l) (i x (p .0)) (all-implies f g l i (p .1))
+
+  pub all-getD : (f : A → Bool) (l : List A) (d : A) → all f l ≡ true → (k : ℕ) → k < length l → f (getD l k d) ≡ true
+  all-getD f [] d h k b = absurd (omega arith)
+  all-getD f (x ∷ l) d h zero b = both (f x) (all f l) h .0
+  all-getD f (x ∷ l) d h (suc k) b = all-getD f l d (both (f x) (all f l) h .1) k (omega arith)
+
+  -- over a list by its elements
+  pub all-build : (f : A → Bool) (n : ℕ) (g : ℕ → A) → all f (build n g) ≡ true → (k : ℕ) → k < n → f (g k) ≡ true
+  all-build f zero g h k b = absurd (omega arith)
+  all-build f (suc n) g h zero b = both (f (g 0)) (all f (build n (λ (j : ℕ). g (suc j)))) h .0
+  all-build f (suc n) g h (suc k) b =
+      all-build f n (λ (j : ℕ). g (suc j)) (both (f (g 0)) (all f (build n (λ (j : ℕ). g (suc j)))) h .1) k (omega arith)
+
+  pub all-build-of : (f : A → Bool) (n : ℕ) (g : ℕ → A) → ((k : ℕ) → k < n → f (g k) ≡ true) → all f (build n g) ≡ true
+  all-build-of f zero g h = refl
+  all-build-of f (suc n) g h = rw (h 0 (omega arith)) (all-build-of f n (λ (k : ℕ). g (suc k)) (λ k l. h (suc k) (omega arith)))
+
+  -- a loop that returns false at the first element that fails: one turn more, and the return
+  pub all-more : (f : A → Bool) (i : ℕ) (g : ℕ → A) → all f (build i g) ≡ true → f (g i) ≡ true → all f (build (i + 1) g) ≡ true
+  all-more f i g h k = rw (build-snoc i g, all-append f (build i g) (g i ∷ []), h, k)
+
+  pub all-stop : (f : A → Bool) (n i : ℕ) (g : ℕ → A) → i < n → f (g i) ≡ false → all f (build n g) ≡ false
+  all-stop f n i g l h = fails (all f (build n g)) refl
+    where
+      fails : (b : Bool) → all f (build n g) ≡ b → b ≡ false
+      fails true e = sym (all-build f n g e i l) ∙ h
+      fails false e = refl
+
+module _ {A B : Type 0} where
+  pub all-map : (f : B → Bool) (h : A → B) (l : List A) → all f (map h l) ≡ all (λ (x : A). f (h x)) l
+  all-map f h [] = refl
+  all-map f h (x ∷ l) = rw (all-map f h l)
+
+  pub any-map : (f : B → Bool) (h : A → B) (l : List A) → any f (map h l) ≡ any (λ (x : A). f (h x)) l
+  any-map f h [] = refl
+  any-map f h (x ∷ l) = rw (any-map f h l)
+
+  pub all-chain : (f : B → Bool) (g : A → List B) (l : List A) → all f (chain g l) ≡ all (λ (x : A). all f (g x)) l
+  all-chain f g [] = refl
+  all-chain f g (x ∷ l) = rw (all-append f (g x) (chain g l), all-chain f g l)
+
+  pub any-chain : (f : B → Bool) (g : A → List B) (l : List A) → any f (chain g l) ≡ any (λ (x : A). any f (g x)) l
+  any-chain f g [] = refl
+  any-chain f g (x ∷ l) = rw (any-append f (g x) (chain g l), any-chain f g l)
+
+pub member-append : (k : ℕ) (l m : List ℕ) → member k (l ++ m) ≡ (member k l || member k m)
+member-append k l m = any-append (λ (x : ℕ). eqb k x) l m
+
+pub member-snoc : (k : ℕ) (l : List ℕ) (x : ℕ) → member k (l ++ (x ∷ [])) ≡ (member k l || eqb k x)
+member-snoc k l x = rw (member-append k l (x ∷ []), or-false)
+
+pub member-chain : {A : Type 0} (k : ℕ) (g : A → List ℕ) (l : List A) → member k (chain g l) ≡ any (λ (x : A). member k (g x)) l
+member-chain k g l = any-chain (λ (x : ℕ). eqb k x) g l
+
+pub all-member : (f : ℕ → Bool) (l : List ℕ) → all f l ≡ true → (k : ℕ) → member k l ≡ true → f k ≡ true
+all-member f [] h k m = never m
+all-member f (x ∷ l) h k m =
+    let p = both (f x) (all f l) h in
+    ⊎-elim (λ e. rw (eqb-true k x e) (p .0)) (λ r. all-member f l (p .1) k r) (or-cases (eqb k x) (member k l) m)
+
+-- a rule of a table, at each of its entries, from one test that computes
+pub table-at : {A : Type 0} (f : ℕ → A → Bool) (d : A) (l : List A) → all (λ (k : ℕ). f k (getD l k d)) (build (length l) (λ (k : ℕ). k)) ≡ true →
+    (k : ℕ) → k < length l → f k (getD l k d) ≡ true
+table-at f d l h k b = all-build (λ (j : ℕ). f j (getD l j d)) (length l) (λ (j : ℕ). j) h k b

@@ -1,0 +1,1 @@
+// No code: the lists that the specifications are made of, and their laws.

@@ -1,0 +1,4 @@
+pub mod Table
+pub mod Rows
+pub mod Back
+pub mod Blank
