@@ -1,0 +1,19 @@
+-- The whole table is right: each row is computed.
+use mathlib.Core.Path.{refl}
+use Rattle.number.specs.Number.{shortOf, shortBytes, bitsOf, bitsBytes}
+use Rattle.step.specs.Step.{funcOf, stepNames, stepVariable, unusedZ, fieldPlace, stepPlaces, blank, stepBytes, stepOf}
+use Rattle.operator.specs.Memory.{tidyAs, memoryNumber, vacant}
+use Rattle.judge.specs.Judge.{four, five, six, seven, judgeBy, whole}
+use Rattle.format.specs.Record.{kindOf, recordBytes, cut, bodyGood, taken, opBytes}
+use Rattle.format.specs.Head.{headGood, headNumber}
+use Rattle.sheet.specs.Check.{checkFrom, ending, checkOf}
+use Rattle.codec.specs.Read.{readFrom, frontOf, readOf}
+use Rattle.codec.specs.Write.{writeOf}
+use Rattle.counts.specs.Worst.{feedGood}
+use Rattle.counts.specs.Answers.{worstOf}
+use Rattle.cases.specs.Case.{Rights}
+use Rattle.cases.specs.Table.{table}
+
+pub cases : Rights table
+unfolding shortOf shortBytes bitsOf bitsBytes funcOf stepNames stepVariable unusedZ fieldPlace stepPlaces blank stepBytes stepOf tidyAs memoryNumber vacant four five six seven judgeBy whole kindOf recordBytes cut bodyGood taken opBytes headGood headNumber checkFrom ending checkOf readFrom frontOf readOf writeOf feedGood worstOf
+cases = (refl, (refl, (refl, (refl, (refl, (refl, (refl, ((refl, refl), ((refl, refl), (refl, (refl, (refl, (refl, (refl, (refl, (refl, tt))))))))))))))))

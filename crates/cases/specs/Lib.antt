@@ -1,0 +1,3 @@
+pub mod Case
+pub mod SheetA
+pub mod Table

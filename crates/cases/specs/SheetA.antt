@@ -1,0 +1,74 @@
+-- Sheet A, its bytes and the sheet that they hold; and the sheet of Latest and Stamp on one variable.
+use mathlib.Core.List.{List, [], _∷_}
+use Prim.Native.Nat.{ℕ}
+use lib.IntN.{pos, negsuc}
+use lib.ListN.{replicate}
+use mathlib.Core.List.{_++_}
+use Rattle.step.specs.Step.{noStep}
+use Rattle.step.specs.declared.Func.the-variants.{Keep, Add, Stamp}
+use Rattle.step.specs.declared.Step.{Step}
+use Rattle.operator.specs.Memory.{noOperator}
+use Rattle.operator.specs.declared.Kind.the-variants.{Line, Latest}
+use Rattle.operator.specs.declared.Operator.{Operator}
+use Rattle.sheet.specs.declared.Sheet.{Sheet}
+
+abbrev pub bytesA : List ℕ
+bytesA =
+    0x04 ∷ 0x00 ∷ 0x01 ∷ 0x00 ∷ 0x01 ∷ 0x03 ∷ 0x00 ∷ 0x02
+    ∷ 0x0e ∷ 0x00 ∷ 0x02 ∷ 0x00 ∷ 0x00 ∷ 0x01 ∷ 0x01 ∷ 0xff ∷ 0x00 ∷ 0x00 ∷ 0x02 ∷ 0x00 ∷ 0x00 ∷ 0x00 ∷ 0x02 ∷ 0x00 ∷ 0x00 ∷ 0x00
+    ∷ 0x0e ∷ 0x00 ∷ 0x02 ∷ 0x00 ∷ 0x01 ∷ 0x02 ∷ 0x02 ∷ 0xff ∷ 0x01 ∷ 0x00 ∷ 0xfb ∷ 0xff ∷ 0xff ∷ 0xff ∷ 0x00 ∷ 0x00 ∷ 0x00 ∷ 0x00 ∷ []
+
+-- a line of one step, and the other kinds' places, as they lie in memory
+abbrev pub lineOf : ℕ → ℕ → Step → Operator
+lineOf p q s =
+    record {
+      kind = Line;
+      count = 1;
+      variable = 0;
+      field = 0;
+      ins = p ∷ 0 ∷ 0 ∷ 0 ∷ [];
+      outs = q ∷ 0 ∷ 0 ∷ 0 ∷ [];
+      steps = s ∷ noStep ∷ noStep ∷ noStep ∷ [];
+    }
+
+abbrev pub latestOf : ℕ → ℕ → ℕ → Operator
+latestOf p v f =
+    record {
+      kind = Latest;
+      count = 0;
+      variable = v;
+      field = f;
+      ins = p ∷ 0 ∷ 0 ∷ 0 ∷ [];
+      outs = 0 ∷ 0 ∷ 0 ∷ 0 ∷ [];
+      steps = noStep ∷ noStep ∷ noStep ∷ noStep ∷ [];
+    }
+
+abbrev pub keepTwo : Step
+keepTwo = record { func = Keep; variable = 255; p = 0; r = 0; low = pos 2; high = pos 2 }
+
+abbrev pub lessFive : Step
+lessFive = record { func = Add; variable = 255; p = 1; r = 0; low = negsuc 4; high = pos 0 }
+
+abbrev pub stampZero : Step
+stampZero = record { func = Stamp; variable = 0; p = 0; r = 0; low = pos 0; high = pos 0 }
+
+abbrev pub sheetA : Sheet
+sheetA =
+    record {
+      inputs = 1;
+      queues = 3;
+      variables = 0;
+      count = 2;
+      operators = lineOf 0 1 keepTwo ∷ lineOf 1 2 lessFive ∷ replicate 14 noOperator;
+    }
+
+-- Latest on input 0 and Stamp from input 1, both on variable 0
+abbrev pub restless : Sheet
+restless =
+    record {
+      inputs = 2;
+      queues = 3;
+      variables = 1;
+      count = 2;
+      operators = latestOf 0 0 1 ∷ lineOf 1 2 stampZero ∷ replicate 14 noOperator;
+    }

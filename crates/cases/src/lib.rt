@@ -1,0 +1,1 @@
+// No code: the paper's starred cases as rows of one table, each with its whole answer.

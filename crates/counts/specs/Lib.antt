@@ -1,0 +1,3 @@
+pub mod Calm
+pub mod Worst
+pub mod Answers

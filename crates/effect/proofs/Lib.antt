@@ -1,0 +1,8 @@
+pub mod Back
+pub mod ByKind
+pub mod Lines
+pub mod Cursors
+pub mod Arms
+pub mod AbleLaws
+pub mod FlowLaws
+pub mod EffectLaws

@@ -1,0 +1,36 @@
+-- `effect::move_on` meets its contract. Assumes nothing.
+use native.Mathlib.Omega.{arith}
+use Rattle.effect.proofs.Cursors.{next-below, moved-is}
+use borrow.Author.Needs.{needs}
+use Rattle.effect.proofs.move_on.Statement.{statement}
+use Rattle.effect.proofs.move_on.Tie as tie
+
+cursor-requires : tie.Need-cursor-requires
+cursor-requires c κs = search needs
+
+add-n : tie.Need-add-n
+add-n c = search needs
+
+rem-n : tie.Need-rem-n
+rem-n c = search needs
+
+cast-u : tie.Need-cast-u
+cast-u c =
+    let b = c in
+    record { sfits = omega (arith, next-below (b .cursor .result) (b .before .args .ways) (b .cursor .ensures .1)) }
+
+mul-u : tie.Need-mul-u
+mul-u c = search needs
+
+array-set-from-u : tie.Need-array-set-from-u
+array-set-from-u c = search needs
+
+returns : tie.Need-returns
+returns c =
+    let b = c in
+    let a = b .before .args in
+    moved-is (a .v) (a .vars) (a .ways) (b .cursor .result) (b .cursor .ensures .0) (b .cursor .ensures .1) (search needs)
+
+pub move-on-spec : {M : Type 1} → statement M
+move-on-spec =
+    tie.close (tie.spec cursor-requires add-n rem-n cast-u mul-u array-set-from-u returns)

@@ -1,0 +1,3 @@
+pub mod Flow
+pub mod Effect
+pub mod Able

@@ -1,0 +1,1 @@
+// No code: the record format, and its laws both ways.

@@ -1,0 +1,4 @@
+pub mod Loops
+pub mod KnownLaws
+pub mod Shapes
+pub mod JudgedLaws

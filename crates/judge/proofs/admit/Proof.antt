@@ -1,0 +1,34 @@
+-- `judge::admit` meets its contract: an operator that the judge keeps has queues and variables that have flags.
+use mathlib.Core.Path.{_≡_, _∙_, sym}
+use borrow.Author.Needs.{needs}
+use Rattle.operator.specs.Op.{names}
+use Rattle.operator.specs.Memory.{view}
+use Rattle.judge.specs.Judge.{judgeBy}
+use Rattle.judge.specs.Seen.{FLAGS, knownBy}
+use Rattle.judge.proofs.JudgedLaws.{judged-four, judged-six, six-names, four-flagged, all-below}
+use Rattle.judge.proofs.admit.Statement.{statement}
+use Rattle.judge.proofs.admit.Tie as tie
+
+judged-requires : tie.Need-judged-requires
+judged-requires c κs = search needs
+
+returns : tie.Need-returns
+returns c = record { number = c .before .judged .ensures; next = λ e. absurd (c .if1 .taken e) }
+
+kept-requires : tie.Need-kept-requires
+kept-requires c κs =
+    let s = c .before .before in
+    let a = s .args in
+    let k = knownBy (a .seen) in
+    let zero : judgeBy (a .queues) (a .variables) k (view (a .o)) ≡ 0 = sym (c .before .judged .ensures) ∙ c .if1 .left in (
+      s .pre .0,
+      four-flagged (a .queues) k (a .o) (s .pre .1) (judged-four (a .queues) (a .variables) k (view (a .o)) zero),
+      all-below (a .variables) FLAGS (names (view (a .o))) (s .pre .2)
+          (six-names (a .variables) k (view (a .o)) (judged-six (a .queues) (a .variables) k (view (a .o)) zero)),
+    )
+
+returns-2 : tie.Need-returns-2
+returns-2 c = search needs
+
+pub admit-spec : {M : Type 1} → statement M
+admit-spec = tie.close (tie.spec judged-requires returns kept-requires returns-2)

@@ -1,0 +1,28 @@
+-- What is known of the operators kept, as flags; and what the judge's function answers.
+use mathlib.Core.Path.{_≡_}
+use mathlib.Core.Bool.{Bool, true}
+use Prim.Native.Nat.{ℕ}
+use lib.Dec.{ltb}
+use Rattle.lists.specs.Lists.{all, has}
+use Rattle.operator.specs.Op.{reads, defines}
+use Rattle.operator.specs.Memory.{view}
+use Rattle.operator.specs.declared.Operator.{Operator}
+use Rattle.judge.specs.declared.Admitted.{Admitted}
+use Rattle.judge.specs.declared.Seen.{Seen}
+use Rattle.judge.specs.Judge.{Known, judgeBy, after}
+
+abbrev pub FLAGS : ℕ
+FLAGS = 32
+
+abbrev pub knownBy : Seen → Known
+knownBy s = record { defined = has (s .defined); used = has (s .used); named = has (s .named); cursor = has (s .cursor) }
+
+-- its queues have flags
+pub record Flagged (o : Operator) : Type 0 where
+  pub ins : all (λ (q : ℕ). ltb q FLAGS) (reads (view o)) ≡ true
+  pub outs : all (λ (q : ℕ). ltb q FLAGS) (defines (view o)) ≡ true
+
+-- what the judge answers: its number, and what is known with the operator kept
+pub record Admits (queues variables : ℕ) (seen : Seen) (o : Operator) (r : Admitted) : Type 0 where
+  pub number : r .number ≡ judgeBy queues variables (knownBy seen) (view o)
+  pub next : r .number ≡ 0 → knownBy (r .seen) ≡ after (knownBy seen) (view o)

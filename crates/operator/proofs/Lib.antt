@@ -1,0 +1,2 @@
+pub mod ViewLaws
+pub mod Held

@@ -1,0 +1,7 @@
+pub mod AnswerLaws
+pub mod Turns
+pub mod Accepted
+pub mod OneOutcome
+pub mod Passed
+pub mod Once
+pub mod Laws

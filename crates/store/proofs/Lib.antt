@@ -1,0 +1,5 @@
+pub mod QueueLaws
+pub mod StoreLaws
+pub mod QuietLaws
+pub mod Copies
+pub mod LentParts

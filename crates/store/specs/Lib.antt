@@ -1,0 +1,3 @@
+pub mod Store
+pub mod Queues
+pub mod Quiet
