@@ -11,9 +11,26 @@ use Rattle.codec.specs.Read.{readFrom, frontOf, readOf}
 use Rattle.codec.specs.Write.{writeOf}
 use Rattle.counts.specs.Worst.{feedGood}
 use Rattle.counts.specs.Answers.{worstOf}
+use Rattle.store.specs.Store.{part, withPart, fields, firstOf}
+use Rattle.store.specs.Queues.{encodeItems, queuePart, storeOf, itemsOf, queuesOf}
+use Rattle.store.specs.Quiet.{quietQueue, quietFrom}
+use Rattle.effect.specs.Flow.{does, stepped}
+use Rattle.effect.specs.Effect.{effect, waits, cursorGood}
+use Rattle.machine.specs.Machine.{commit, fireFrom, fireFirst, feedM, takeM, runFrom}
+use Rattle.machine.specs.Ready.{readySet}
+use Rattle.machine.specs.Numbers.{good}
+use Rattle.machine.specs.Calls.{fireOf, feedOf, takeOf, runOf, readyOf}
 use Rattle.cases.specs.Case.{Rights}
 use Rattle.cases.specs.Table.{table}
 
 pub cases : Rights table
-unfolding shortOf shortBytes bitsOf bitsBytes funcOf stepNames stepVariable unusedZ fieldPlace stepPlaces blank stepBytes stepOf tidyAs memoryNumber vacant four five six seven judgeBy whole kindOf recordBytes cut bodyGood taken opBytes headGood headNumber checkFrom ending checkOf readFrom frontOf readOf writeOf feedGood worstOf
-cases = (refl, (refl, (refl, (refl, (refl, (refl, (refl, ((refl, refl), ((refl, refl), (refl, (refl, (refl, (refl, (refl, (refl, (refl, tt))))))))))))))))
+unfolding shortOf shortBytes bitsOf bitsBytes funcOf stepNames stepVariable unusedZ fieldPlace stepPlaces blank stepBytes stepOf tidyAs memoryNumber
+    vacant four five six seven judgeBy whole kindOf recordBytes cut bodyGood taken opBytes headGood headNumber checkFrom ending checkOf readFrom frontOf
+    readOf writeOf feedGood worstOf part withPart fields firstOf encodeItems queuePart storeOf itemsOf queuesOf quietQueue quietFrom does stepped effect
+    waits cursorGood commit fireFrom fireFirst feedM takeM runFrom readySet good fireOf feedOf takeOf runOf readyOf
+cases =
+    (refl, (refl, (refl, (refl, (refl, (refl, (refl, ((refl, refl), ((refl, refl), (refl,
+    (refl, (refl, (refl, (refl, (refl, (refl, (refl, ((refl, refl), (refl, (refl,
+    (refl, (refl, (refl, (refl, (refl, (refl, (refl, (refl, (refl, (refl,
+    (refl, (refl, (refl, (refl, (refl,
+    tt)))))))))))))))))))))))))))))))))))

@@ -11,6 +11,10 @@ use Rattle.codec.specs.Read.{readOf}
 use Rattle.codec.specs.Write.{writeOf}
 use Rattle.counts.specs.Calm.{isCalm}
 use Rattle.counts.specs.Answers.{worstOf}
+use Rattle.store.specs.declared.Item.{Item}
+use Rattle.machine.specs.Machine.{Machine}
+use Rattle.machine.specs.Numbers.{stateOf, storeIn}
+use Rattle.machine.specs.Calls.{Call, feedOf, takeOf, fireOf, runOf, readyOf}
 
 pub data Case : Type 0 where
   reads : (bytes : List ℕ) (answer : Paper) (sheet : Sheet) → Case
@@ -18,6 +22,15 @@ pub data Case : Type 0 where
   writes : (sheet : Sheet) (buffer : List ℕ) (answer : Paper) (length : ℕ) (after : List ℕ) → Case
   calms : (sheet : Sheet) (answer : Paper) (calm : Bool) → Case
   counts : (sheet : Sheet) (fed : List ℕ) (answer : Paper) (worst : List ℕ) → Case
+  feeds : (sheet : Sheet) (before : Machine) (queue : ℕ) (item : Item) (answer : Paper) (after : Machine) → Case
+  takes : (sheet : Sheet) (before : Machine) (queue : ℕ) (answer : Paper) (item : Item) (after : Machine) → Case
+  fires : (sheet : Sheet) (before : Machine) (queue : ℕ) (answer : Paper) (after : Machine) → Case
+  runs : (sheet : Sheet) (before : Machine) (list : List ℕ) (answer : Paper) (fired skipped : ℕ) (after : Machine) → Case
+  readies : (sheet : Sheet) (before : Machine) (answer : Paper) (set : ℕ) → Case
+
+-- a call's answer and the numbers that it leaves
+abbrev pub leaving : Paper → Machine → Call
+leaving p m = record { answer = p; state = stateOf m; store = storeIn m }
 
 abbrev pub Right : Case → Type 0
 Right (reads s p t) = readOf s ≡ record { answer = p; sheet = t }
@@ -25,6 +38,11 @@ Right (checks t p) = checkOf t ≡ p
 Right (writes t l p n after) = writeOf t l ≡ record { answer = p; length = n; buffer = after }
 Right (calms t p b) = (checkOf t ≡ p) × (isCalm (viewSheet t) ≡ b)
 Right (counts t fed p w) = worstOf t fed ≡ record { answer = p; counts = w }
+Right (feeds t m q x p m') = feedOf t (stateOf m) (storeIn m) q x ≡ leaving p m'
+Right (takes t m q p x m') = takeOf t (stateOf m) (storeIn m) q ≡ record { call = leaving p m'; item = x }
+Right (fires t m q p m') = fireOf t (stateOf m) (storeIn m) q ≡ leaving p m'
+Right (runs t m l p fired skipped m') = runOf t (stateOf m) (storeIn m) l ≡ record { call = leaving p m'; fired = fired; skipped = skipped }
+Right (readies t m p set) = (readyOf t (stateOf m) (storeIn m) .answer ≡ p) × (readyOf t (stateOf m) (storeIn m) .set ≡ set)
 
 -- every row of a table
 abbrev pub Rights : List Case → Type 0

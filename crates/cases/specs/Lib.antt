@@ -1,3 +1,4 @@
 pub mod Case
 pub mod SheetA
+pub mod Firings
 pub mod Table

@@ -5,8 +5,15 @@ use Prim.Native.Nat.{ℕ}
 use lib.ListN.{take, replicate}
 use Rattle.sheet.specs.Answer.{accepted, refusedAt, refused}
 use Rattle.sheet.specs.Sheet.{noSheet}
-use Rattle.cases.specs.Case.{Case, reads, checks, writes, calms, counts}
+use lib.IntN.{pos, negsuc}
+use Rattle.machine.specs.Machine.{Machine}
+use Rattle.cases.specs.Case.{Case, reads, checks, writes, calms, counts, feeds, takes, fires, runs, readies}
+use Rattle.cases.specs.Firings.{LEAST, MOST, item, of, holding, keep, addOne, countFirst, lineOfSteps, dealThree, gatherTwo, many}
 use Rattle.cases.specs.SheetA.{bytesA, sheetA, restless}
+
+-- sheet A's worked example, run
+abbrev pub worked : Machine
+worked = holding ([] ∷ [] ∷ (item (pos 2) (pos 45) (pos 0) (pos 0) ∷ item (pos 2) (negsuc 7) (pos 7) (pos 0) ∷ []) ∷ []) []
 
 abbrev pub table : List Case
 table =
@@ -31,4 +38,34 @@ table =
     ∷ reads (replicate 60 255) (refusedAt 1 0) noSheet
     ∷ reads (255 ∷ 255 ∷ 1 ∷ 0 ∷ replicate 40 0) (refusedAt 1 0) noSheet
     ∷ reads (4 ∷ 0 ∷ 1 ∷ 0 ∷ 1 ∷ 3 ∷ 0 ∷ 16 ∷ []) (refusedAt 1 1) noSheet
+    -- sheet A fed as in its worked example, fired 0, 0, 1, 0, 1; then at rest
+    ∷ runs sheetA (holding ((item (pos 2) (pos 50) (pos 0) (pos 0) ∷ item (pos 1) (pos 40) (pos 0) (pos 0) ∷ item (pos 2) (negsuc 2) (pos 7) (pos 0) ∷ []) ∷ []) [])
+        (0 ∷ 0 ∷ 1 ∷ 0 ∷ 1 ∷ []) accepted 5 0 worked
+    ∷ readies sheetA worked accepted 0
+    ∷ takes sheetA worked 2 accepted (item (pos 2) (pos 45) (pos 0) (pos 0)) (holding ([] ∷ [] ∷ (item (pos 2) (negsuc 7) (pos 7) (pos 0) ∷ []) ∷ []) [])
+    -- Add 1 to the largest number wraps to the smallest
+    ∷ fires (lineOfSteps (addOne ∷ [])) (holding ((of MOST ∷ []) ∷ []) []) 0 accepted (holding ([] ∷ (of LEAST ∷ []) ∷ []) [])
+    -- Keep at the ends of the range, and with low above high
+    ∷ fires (lineOfSteps (keep LEAST LEAST ∷ [])) (holding ((of LEAST ∷ []) ∷ []) []) 0 accepted (holding ([] ∷ (of LEAST ∷ []) ∷ []) [])
+    ∷ fires (lineOfSteps (keep MOST MOST ∷ [])) (holding ((of MOST ∷ []) ∷ []) []) 0 accepted (holding ([] ∷ (of MOST ∷ []) ∷ []) [])
+    ∷ fires (lineOfSteps (keep LEAST (negsuc 0) ∷ [])) (holding ((of MOST ∷ []) ∷ []) []) 0 accepted (holding ([] ∷ [] ∷ []) [])
+    ∷ fires (lineOfSteps (keep (pos 8) (pos 6) ∷ [])) (holding ((of (pos 7) ∷ []) ∷ []) []) 0 accepted (holding ([] ∷ [] ∷ []) [])
+    -- a three-way deal of four items: outputs 0, 1, 2, 0; cursor 1
+    ∷ runs dealThree (holding ((of (pos 1) ∷ of (pos 2) ∷ of (pos 3) ∷ of (pos 4) ∷ []) ∷ []) []) (0 ∷ 0 ∷ 0 ∷ 0 ∷ []) accepted 4 0
+        (holding ([] ∷ (of (pos 1) ∷ of (pos 4) ∷ []) ∷ (of (pos 2) ∷ []) ∷ (of (pos 3) ∷ []) ∷ []) (pos 1 ∷ []))
+    -- a gather at cursor 0, its second queue fired: 11 with an item, 10 empty
+    ∷ fires gatherTwo (holding ([] ∷ (of (pos 1) ∷ []) ∷ []) []) 1 (refused 11) (holding ([] ∷ (of (pos 1) ∷ []) ∷ []) [])
+    ∷ fires gatherTwo (holding [] []) 1 (refused 10) (holding [] [])
+    -- the 64th feed is taken, the 65th is 12
+    ∷ feeds (lineOfSteps (addOne ∷ [])) (holding (many 63 ∷ []) []) 0 (of (pos 7)) accepted (holding (many 64 ∷ []) [])
+    ∷ feeds (lineOfSteps (addOne ∷ [])) (holding (many 64 ∷ []) []) 0 (of (pos 7)) (refused 12) (holding (many 64 ∷ []) [])
+    -- firing into a full queue is 12, but a dropped item fires
+    ∷ fires (lineOfSteps (addOne ∷ [])) (holding ((of (pos 1) ∷ []) ∷ many 64 ∷ []) []) 0 (refused 12) (holding ((of (pos 1) ∷ []) ∷ many 64 ∷ []) [])
+    ∷ fires (lineOfSteps (keep (pos 2) (pos 2) ∷ [])) (holding ((of (pos 1) ∷ []) ∷ many 64 ∷ []) []) 0 accepted (holding ([] ∷ many 64 ∷ []) [])
+    -- a Count whose item is then dropped has counted; one that finds no room has not
+    ∷ fires (lineOfSteps (countFirst ∷ keep (pos 2) (pos 2) ∷ [])) (holding ((of (pos 1) ∷ []) ∷ []) []) 0 accepted (holding ([] ∷ []) (pos 1 ∷ []))
+    ∷ fires (lineOfSteps (countFirst ∷ [])) (holding ((of (pos 1) ∷ []) ∷ many 64 ∷ []) []) 0 (refused 12) (holding ((of (pos 1) ∷ []) ∷ many 64 ∷ []) [])
+    -- a queue that no operator reads, and one that is no queue, are 9
+    ∷ fires sheetA (holding [] []) 2 (refused 9) (holding [] [])
+    ∷ fires sheetA (holding [] []) 255 (refused 9) (holding [] [])
     ∷ []

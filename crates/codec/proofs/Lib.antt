@@ -9,3 +9,4 @@ pub mod OneOutcome
 pub mod Reading
 pub mod ReadEnds
 pub mod Writing
+pub mod RoundTrip

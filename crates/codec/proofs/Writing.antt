@@ -85,11 +85,11 @@ writes-all s₀ s l t i e p q =
     ∙ sets-append (headOf t) (chain opBytes (viewTo t i .ops)) l 0 ∙ ap (λ (n : ℕ). sets l 0 (bytesTo t n)) e ∙ ap (sets l 0) (bytes-all t)
 
 -- what writing answers, by the check and the room
-written-accepted : (t : Sheet) (l : List ℕ) → checkOf t ≡ accepted → writeOf t l ≡ writing (sheetBytes (viewSheet t)) l
+pub written-accepted : (t : Sheet) (l : List ℕ) → checkOf t ≡ accepted → writeOf t l ≡ writing (sheetBytes (viewSheet t)) l
 unfolding writeOf
 written-accepted t l h = rw h
 
-written-refused : (t : Sheet) (l : List ℕ) (b : Paper) → checkOf t ≡ b → isAccepted b ≡ false → writeOf t l ≡ record { answer = b; length = 0; buffer = l }
+pub written-refused : (t : Sheet) (l : List ℕ) (b : Paper) → checkOf t ≡ b → isAccepted b ≡ false → writeOf t l ≡ record { answer = b; length = 0; buffer = l }
 unfolding writeOf
 written-refused t l b h e = rw (h, e)
 
@@ -107,7 +107,7 @@ pub writes-refused : (t : Sheet) (l : List ℕ) (a b : Answer) → a ≡ b → p
 writes-refused t l a b d e h =
     writes-as t l l (record { answer = b; length = 0 }) _ (written-refused t l (paper b) (sym e ∙ ap paper d) h) refl refl refl
 
-writing-short : (bytes l : List ℕ) → length l < length bytes → writing bytes l ≡ record { answer = refusedAt 18 0; length = 0; buffer = l }
+pub writing-short : (bytes l : List ℕ) → length l < length bytes → writing bytes l ≡ record { answer = refusedAt 18 0; length = 0; buffer = l }
 writing-short bytes l h = rw (lt-leb (length bytes) (length l) h)
 
 writing-fits : (bytes l : List ℕ) → length bytes ≤ length l →

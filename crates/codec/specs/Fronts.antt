@@ -1,18 +1,19 @@
 -- What the functions of reading and writing answer, against the definitions.
 use mathlib.Core.Path.{_≡_}
 use mathlib.Core.List.{List}
-use Prim.Native.Nat.{ℕ, _+_}
+use Prim.Native.Nat.{ℕ, _+_, _≤_}
 use mathlib.Core.Bool.{Bool, cond, _&&_}
 use lib.Dec.{eqb}
 use lib.ListN.{length}
 use Rattle.sheet.specs.declared.Sheet.{Sheet}
-use Rattle.sheet.specs.Answer.{paper, accepted, refusedAt}
-use Rattle.sheet.specs.Sheet.{noSheet}
+use Rattle.sheet.specs.Answer.{paper, accepted, refusedAt, isAccepted}
+use Rattle.sheet.specs.Sheet.{viewSheet, noSheet}
+use Rattle.sheet.specs.Check.{checkOf}
 use Rattle.codec.specs.declared.Front.{Front}
 use Rattle.codec.specs.declared.ReadSheet.{ReadSheet}
 use Rattle.codec.specs.declared.Written.{Written}
 use Rattle.codec.specs.Read.{frontOf, frontAnswer, frontSheet, frontEnd, frontWhole, readOf}
-use Rattle.codec.specs.Write.{writeOf}
+use Rattle.codec.specs.Write.{sheetBytes, writeOf}
 
 pub record Fronts (s : List ℕ) (r : Front) : Type 0 where
   pub answer : paper (r .answer) ≡ frontAnswer (frontOf s)
@@ -33,3 +34,9 @@ pub record Writes (t : Sheet) (before after : List ℕ) (r : Written) : Type 0 w
   pub answer : paper (r .answer) ≡ writeOf t before .answer
   pub length : r .length ≡ writeOf t before .length
   pub buffer : after ≡ writeOf t before .buffer
+
+-- a sheet that is written and read back: itself where the check and the buffer allow it, else the writing's refusal
+pub record Agains (t : Sheet) (before : List ℕ) (r : ReadSheet) : Type 0 where
+  pub same : checkOf t ≡ accepted → lib.ListN.length (sheetBytes (viewSheet t)) ≤ lib.ListN.length before → (paper (r .answer) ≡ accepted) × (r .sheet ≡ t)
+  pub answer : paper (r .answer) ≡ writeOf t before .answer
+  pub sheet : r .sheet ≡ cond (isAccepted (writeOf t before .answer)) t noSheet

@@ -12,7 +12,7 @@ ghost use mathlib.Core.Bool.{false};
 ghost use Rattle.sheet.specs.Sheet.{viewSheet, noSheet};
 ghost use Rattle.sheet.specs.Check.{checkOf};
 ghost use Rattle.codec.specs.Write.{sheetBytes};
-ghost use Rattle.codec.specs.Fronts.{Fronts, Ends, Reads, Writes};
+ghost use Rattle.codec.specs.Fronts.{Fronts, Ends, Reads, Writes, Agains};
 
 // The head and N operators that were read, where they end, and whether every queue is defined.
 pub struct Front {
@@ -216,5 +216,25 @@ pub fn write(t: Sheet, buffer: &mut [u8]) -> Written
             answer: Answer::Refused { number },
             length: 0,
         },
+    }
+}
+
+// Writes a sheet and reads it back: the round trip, of the program.
+pub fn again(t: Sheet, buffer: &mut [u8]) -> ReadSheet
+    ensures { λ r. ⌜ Agains t (now (buffer .entry)) r ⌝ }
+{
+    let w = write(t, buffer);
+    let a = w.answer;
+    let n = w.length;
+    match a {
+        Answer::Done => read(&buffer[..n]),
+        Answer::RefusedAt { number, spot } => refused(number, spot),
+        Answer::Refused { number } => {
+            let sheet = sheet::no_sheet();
+            ReadSheet {
+                answer: Answer::Refused { number },
+                sheet,
+            }
+        }
     }
 }

@@ -1,0 +1,53 @@
+-- The theorems on sheets, for a reader to find at once: each is proved in the crate that its line names.
+-- Assumes nothing.
+
+-- reading and writing: a checked sheet that is written into a buffer with room for it is read back as itself
+pub use Rattle.codec.proofs.Theorems.{read-of-written}
+-- a sheet that is read has the bytes that it was read from, and no others
+pub use Rattle.codec.proofs.Theorems.{written-of-read}
+-- a sheet that is read, and then written into a buffer with room for it, puts the same bytes there
+pub use Rattle.codec.proofs.Theorems.{write-of-read}
+-- a sheet that is read passes the check
+pub use Rattle.codec.proofs.Theorems.{read-is-checked}
+-- a reading's refusal is at the head, at an operator, or at the record past the last
+pub use Rattle.codec.proofs.Theorems.{read-refusal-record}
+-- a reading's refusal is one of the numbers 1 to 7
+pub use Rattle.codec.proofs.Theorems.{read-refusal-number}
+-- the check: its refusal is at the head, at an operator, or at the record past the last
+pub use Rattle.sheet.proofs.Accepted.{refusal-record}
+-- the check's refusal is one of the numbers 1 to 7
+pub use Rattle.sheet.proofs.Accepted.{refusal-number}
+-- an accepted sheet: each queue below Q is defined exactly once, by the head or by an operator
+pub use Rattle.sheet.proofs.Laws.{defined-once}
+-- no queue is read twice
+pub use Rattle.sheet.proofs.Laws.{read-at-most-once}
+-- what an operator reads is an input, or an operator before it defines it
+pub use Rattle.sheet.proofs.Laws.{read-is-earlier}
+-- a cursor is named by no other operator
+pub use Rattle.sheet.proofs.Laws.{cursor-alone}
+-- an operator holds 0 in every place that its kind and count do not use
+pub use Rattle.sheet.proofs.Laws.{unused-zero}
+-- every place past the last operator holds the empty operator
+pub use Rattle.sheet.proofs.Laws.{past-no-operator}
+-- every queue that an operator reads or defines is below Q
+pub use Rattle.sheet.proofs.Laws.{queue-below}
+-- every variable that an operator names is below V
+pub use Rattle.sheet.proofs.Laws.{variable-below}
+-- worst counts: they are 0 from queue Q on
+pub use Rattle.counts.proofs.WorstLaws.{worst-past}
+-- calm sheets: no two operators of a calm sheet name the same variable
+pub use Rattle.counts.proofs.CalmLaws.{calm-apart}
+-- a sheet of which no two operators name the same variable is calm
+pub use Rattle.counts.proofs.CalmLaws.{apart-calm}
+-- one outcome: two answers that meet the contract of the check are equal
+pub use Rattle.sheet.proofs.OneOutcome.{check-one}
+-- two answers that meet the contract of reading the head and the operators are equal
+pub use Rattle.codec.proofs.OneOutcome.{front-one}
+-- two answers that meet the contract of reading are equal
+pub use Rattle.codec.proofs.OneOutcome.{read-one}
+-- two answers that meet the contract of writing are equal, and so are the two buffers
+pub use Rattle.codec.proofs.OneOutcome.{write-one}
+-- two answers that meet the contract of the calm test are equal
+pub use Rattle.counts.proofs.OneOutcome.{calm-one}
+-- two answers that meet the contract of the worst counts are equal
+pub use Rattle.counts.proofs.OneOutcome.{worst-one}

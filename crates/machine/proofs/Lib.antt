@@ -1,0 +1,13 @@
+pub mod Good
+pub mod Bridge
+pub mod Putting
+pub mod Trying
+pub mod Sound
+pub mod Firing
+pub mod Keeps
+pub mod FreshLaws
+pub mod RunLaws
+pub mod ReaderLaws
+pub mod ReadyLaws
+pub mod OneOutcome
+pub mod AbleOf

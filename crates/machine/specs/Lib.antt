@@ -1,0 +1,5 @@
+pub mod Machine
+pub mod Ready
+pub mod Numbers
+pub mod Calls
+pub mod Working

@@ -1,0 +1,332 @@
+// The machine in numbers: the state, its test, and one firing from a queue. The runner's calls are made of these.
+use effect::Effect;
+use effect::Puts;
+use operator::Operator;
+use sheet::Answer;
+use sheet::Sheet;
+use store::Item;
+ghost use mathlib.Core.Path.{_≡_};
+ghost use mathlib.Core.Bool.{true};
+ghost use Prim.Native.Nat.{_<_, _≤_};
+ghost use lib.Dec.{eqb, ltb, leb};
+ghost use lib.ListN.{length, getD, drop};
+ghost use Rattle.lists.specs.Lists.{all, any};
+ghost use Rattle.operator.specs.Op.{reads};
+ghost use Rattle.operator.specs.Memory.{view, Ready};
+ghost use Rattle.sheet.specs.Answer.{paper, accepted};
+ghost use Rattle.sheet.specs.Sheet.{viewSheet};
+ghost use Rattle.sheet.specs.Check.{checkOf};
+ghost use Rattle.store.specs.Store.{STORE, QUEUES, ROOM};
+ghost use Rattle.effect.specs.Effect.{putsOf, cursorGood};
+ghost use Rattle.machine.specs.Machine.{fireOp};
+ghost use Rattle.machine.specs.Numbers.{decode, good};
+ghost use Rattle.machine.specs.Calls.{saved, standing};
+ghost use Rattle.machine.specs.Working.{readersOf, readersWith, raw, putRaw, takeRaw, putsRaw, Room, Fit, fireFound, Answers, Attempts};
+
+pub const QUEUES: usize = 24;
+
+pub const VARIABLES: usize = 16;
+
+pub const ROOM: u8 = 64;
+
+pub const STORE: usize = 6144;
+
+// The number of items in each queue, and the variables. The items lie in the lent store.
+pub struct State {
+    pub counts: [u8; QUEUES],
+    pub vars: [i32; VARIABLES],
+}
+
+pub struct Fired {
+    pub answer: Answer,
+    pub state: State,
+}
+
+pub struct Taken {
+    pub answer: Answer,
+    pub item: Item,
+    pub state: State,
+}
+
+pub struct Ran {
+    pub answer: Answer,
+    pub fired: usize,
+    pub skipped: usize,
+    pub state: State,
+}
+
+// What firing an operator would do: its refusal, 0 for none, and its effect.
+pub struct Attempt {
+    pub number: u8,
+    pub effect: Effect,
+}
+
+pub struct ReadySet {
+    pub answer: Answer,
+    pub set: u32,
+    pub count: u32,
+    pub lowest: u32,
+}
+
+// The readers with operator i as the one of each of its in queues.
+fn with_reader(readers: [u8; QUEUES], o: Operator, i: u8) -> [u8; QUEUES]
+    requires { ⌜ Ready o × (all (λ q. ltb q QUEUES) (reads (view o)) ≡ true) ⌝ }
+    ensures { λ r. ⌜ r ≡ readersWith readers (reads (view o)) i ⌝ }
+{
+    let k = o.kind;
+    let s = operator::shape_of(k, o.count);
+    let n = s.ins as usize;
+    let mut r = readers;
+    let mut j = 0;
+    while j < n {
+        let q = o.ins[j] as usize;
+        r[q] = i;
+        j += 1;
+    }
+    r
+}
+
+// The operator that reads each queue, from the last to the first, so that the first that reads it stands.
+pub fn readers(t: Sheet) -> [u8; QUEUES]
+    requires { ⌜ checkOf t ≡ accepted ⌝ }
+    ensures { λ r. ⌜ r ≡ readersOf (viewSheet t .ops) ⌝ }
+{
+    let mut r = [16u8; QUEUES];
+    let mut i = t.count as usize;
+    while 0 < i {
+        i -= 1;
+        let o = t.operators[i];
+        let next = with_reader(r, o, i as u8);
+        r = next;
+    }
+    r
+}
+
+// The place of the operator that reads q; 16 where none does, also where q is no queue.
+pub fn reader_at(readers: [u8; QUEUES], q: u8) -> usize
+    ensures { λ r. ⌜ r ≡ getD readers q 16 ⌝ }
+{
+    let i = q as usize;
+    if i < QUEUES {
+        return readers[i] as usize;
+    }
+    16
+}
+
+fn none_from(counts: [u8; QUEUES], from: usize) -> bool
+    requires { ⌜ from ≤ QUEUES ⌝ }
+    ensures { λ r. ⌜ r ≡ all (λ n. eqb n 0) (drop from counts) ⌝ }
+{
+    let mut i = from;
+    while i < QUEUES {
+        if counts[i] != 0 {
+            return false;
+        }
+        i += 1;
+    }
+    true
+}
+
+fn cursors_good(t: Sheet, vars: [i32; VARIABLES]) -> bool
+    requires { ⌜ checkOf t ≡ accepted ⌝ }
+    ensures { λ r. ⌜ r ≡ all (λ o. cursorGood o vars) (viewSheet t .ops) ⌝ }
+{
+    let n = t.count as usize;
+    let mut i = 0;
+    while i < n {
+        let o = t.operators[i];
+        if !effect::cursor_good(o, vars) {
+            return false;
+        }
+        i += 1;
+    }
+    true
+}
+
+// 8: whether store and state are as they have to be for an accepted sheet.
+fn is_good(t: Sheet, state: State, store: &[i32]) -> bool
+    requires { ⌜ checkOf t ≡ accepted ⌝ }
+    ensures { λ r. ⌜ r ≡ good (viewSheet t) state (now (store .entry)) ⌝ }
+{
+    if store.len() != STORE {
+        return false;
+    }
+    let counts = state.counts;
+    if !store::quiet(store, counts) {
+        return false;
+    }
+    if !none_from(counts, t.queues as usize) {
+        return false;
+    }
+    let vars = state.vars;
+    if !store::zeros_from(&vars, t.variables as usize) {
+        return false;
+    }
+    cursors_good(t, vars)
+}
+
+// The sheet's own refusal, then 8.
+pub fn stands(t: Sheet, state: State, store: &[i32]) -> Answer
+    ensures { λ r. ⌜ paper r ≡ standing t state (now (store .entry)) ⌝ }
+{
+    let a = sheet::check(t);
+    match a {
+        Answer::Done => {
+            if is_good(t, state, store) {
+                return Answer::Done;
+            }
+            Answer::Refused { number: 8 }
+        }
+        Answer::RefusedAt { number, spot } => Answer::RefusedAt { number, spot },
+        Answer::Refused { number } => Answer::Refused { number },
+    }
+}
+
+pub fn no(number: u8, state: State) -> Fired
+    ensures { λ r. ⌜ (r .answer ≡ Answer.Refused number) × (r .state ≡ state) ⌝ }
+{
+    Fired {
+        answer: Answer::Refused { number },
+        state,
+    }
+}
+
+// Whether a queue holds 64.
+pub fn is_full(counts: [u8; QUEUES], q: u8) -> bool
+    requires { ⌜ q < QUEUES ⌝ }
+    ensures { λ r. ⌜ r ≡ leb ROOM (getD counts q 0) ⌝ }
+{
+    let i = q as usize;
+    ROOM <= counts[i]
+}
+
+// Whether one of the queues to put on holds 64.
+fn no_room(counts: [u8; QUEUES], puts: Puts) -> bool
+    requires { ⌜ all (λ q. ltb q QUEUES) (putsOf puts) ≡ true ⌝ }
+    ensures { λ r. ⌜ r ≡ any (λ q. leb ROOM (getD counts q 0)) (putsOf puts) ⌝ }
+{
+    match puts {
+        Puts::Nowhere => false,
+        Puts::One(a) => is_full(counts, a),
+        Puts::Two(a, b) => {
+            if is_full(counts, a) {
+                return true;
+            }
+            is_full(counts, b)
+        }
+    }
+}
+
+// Puts an item on queue q.
+pub fn put(counts: [u8; QUEUES], store: &mut [i32], q: u8, x: Item) -> [u8; QUEUES]
+    requires { ⌜ (length (now store) ≡ STORE) × (q < QUEUES) × (getD counts q 0 < ROOM) ⌝ }
+    ensures { λ r. ⌜ raw r (now (store .exit)) ≡ putRaw (raw counts (now (store .entry))) q x ⌝ }
+{
+    let i = q as usize;
+    let n = counts[i];
+    store::push(&mut *store, i, n as usize, x);
+    let mut c = counts;
+    c[i] = n + 1;
+    c
+}
+
+// Puts an item on each of the queues.
+fn put_all(counts: [u8; QUEUES], store: &mut [i32], puts: Puts, x: Item) -> [u8; QUEUES]
+    requires { ⌜ (length (now store) ≡ STORE) × Room counts (putsOf puts) ⌝ }
+    ensures { λ r. ⌜ raw r (now (store .exit)) ≡ putsRaw (raw counts (now (store .entry))) (putsOf puts) x ⌝ }
+{
+    match puts {
+        Puts::Nowhere => counts,
+        Puts::One(a) => put(counts, &mut *store, a, x),
+        Puts::Two(a, b) => {
+            let c = put(counts, &mut *store, a, x);
+            put(c, &mut *store, b, x)
+        }
+    }
+}
+
+// Takes the oldest item of queue q.
+pub fn take_one(counts: [u8; QUEUES], store: &mut [i32], q: u8) -> [u8; QUEUES]
+    requires { ⌜ (length (now store) ≡ STORE) × (q < QUEUES) × (0 < getD counts q 0) ⌝ }
+    ensures { λ r. ⌜ raw r (now (store .exit)) ≡ takeRaw (raw counts (now (store .entry))) q ⌝ }
+{
+    let i = q as usize;
+    store::take(&mut *store, i);
+    let n = counts[i];
+    let mut c = counts;
+    c[i] = n - 1;
+    c
+}
+
+fn none_of(number: u8, x: Item, vars: [i32; VARIABLES]) -> Attempt
+    ensures { λ r. ⌜ r .number ≡ number ⌝ }
+{
+    Attempt {
+        number,
+        effect: Effect {
+            puts: Puts::Nowhere,
+            item: x,
+            vars,
+        },
+    }
+}
+
+// Tries an operator from queue q: nothing is touched, so a refusal leaves all as it was.
+pub fn try_operator(o: Operator, q: u8, state: State, store: &[i32]) -> Attempt
+    requires { ⌜ Fit o q state (now store) ⌝ }
+    ensures { λ r. ⌜ Attempts o q state (now (store .entry)) r ⌝ }
+{
+    let i = q as usize;
+    let counts = state.counts;
+    let vars = state.vars;
+    let x = store::first(store, i);
+    if counts[i] == 0 {
+        return none_of(10, x, vars);
+    }
+    if effect::has_to_wait(o, q, vars) {
+        return none_of(11, x, vars);
+    }
+    let e = effect::act(o, x, vars);
+    let puts = e.puts;
+    if no_room(counts, puts) {
+        return none_of(12, x, vars);
+    }
+    Attempt {
+        number: 0,
+        effect: e,
+    }
+}
+
+// Fires an operator from queue q.
+fn fire_operator(o: Operator, q: u8, state: State, store: &mut [i32]) -> Fired
+    requires { ⌜ Fit o q state (now store) ⌝ }
+    ensures { λ r. ⌜ Answers (saved state (now (store .entry)) (fireOp (view o) (decode state (now (store .entry))) q)) (r .answer) (r .state) (now (store .exit)) ⌝ }
+{
+    let a = try_operator(o, q, state, &*store);
+    let number = a.number;
+    if number != 0 {
+        return no(number, state);
+    }
+    let e = a.effect;
+    let counts = state.counts;
+    let left = take_one(counts, &mut *store, q);
+    let puts = e.puts;
+    let x = e.item;
+    let counts = put_all(left, &mut *store, puts, x);
+    let vars = e.vars;
+    Fired {
+        answer: Answer::Done,
+        state: State { counts, vars },
+    }
+}
+
+// Fires the operator that was found, 9 where none was.
+pub fn fire_found(found: bool, o: Operator, q: u8, state: State, store: &mut [i32]) -> Fired
+    requires { ⌜ (found ≡ true → Fit o q state (now store)) ⌝ }
+    ensures { λ r. ⌜ Answers (saved state (now (store .entry)) (fireFound found (view o) (decode state (now (store .entry))) q)) (r .answer) (r .state) (now (store .exit)) ⌝ }
+{
+    if !found {
+        return no(9, state);
+    }
+    fire_operator(o, q, state, &mut *store)
+}
