@@ -19,6 +19,8 @@ use Rattle.effect.specs.Effect.{effect, waits, cursorGood}
 use Rattle.machine.specs.Machine.{commit, fireFrom, fireFirst, feedM, takeM, runFrom}
 use Rattle.machine.specs.Ready.{readySet}
 use Rattle.machine.specs.Numbers.{good}
+use Rattle.rewriter.specs.Rewrite.{fuse, split, reorder}
+use Rattle.rewriter.specs.Calls.{fuseOf, splitOf, reorderOf}
 use Rattle.machine.specs.Calls.{fireOf, feedOf, takeOf, runOf, readyOf}
 use Rattle.cases.specs.Case.{Rights}
 use Rattle.cases.specs.Table.{table}
@@ -27,10 +29,149 @@ pub cases : Rights table
 unfolding shortOf shortBytes bitsOf bitsBytes funcOf stepNames stepVariable unusedZ fieldPlace stepPlaces blank stepBytes stepOf tidyAs memoryNumber
     vacant four five six seven judgeBy whole kindOf recordBytes cut bodyGood taken opBytes headGood headNumber checkFrom ending checkOf readFrom frontOf
     readOf writeOf feedGood worstOf part withPart fields firstOf encodeItems queuePart storeOf itemsOf queuesOf quietQueue quietFrom does stepped effect
-    waits cursorGood commit fireFrom fireFirst feedM takeM runFrom readySet good fireOf feedOf takeOf runOf readyOf
-cases =
-    (refl, (refl, (refl, (refl, (refl, (refl, (refl, ((refl, refl), ((refl, refl), (refl,
-    (refl, (refl, (refl, (refl, (refl, (refl, (refl, ((refl, refl), (refl, (refl,
-    (refl, (refl, (refl, (refl, (refl, (refl, (refl, (refl, (refl, (refl,
-    (refl, (refl, (refl, (refl, (refl,
-    tt)))))))))))))))))))))))))))))))))))
+    waits cursorGood commit fireFrom fireFirst feedM takeM runFrom readySet good fireOf feedOf takeOf runOf readyOf fuse split reorder fuseOf splitOf reorderOf
+cases = (
+  refl,
+  (
+    refl,
+    (
+      refl,
+      (
+        refl,
+        (
+          refl,
+          (
+            refl,
+            (
+              refl,
+              (
+                (refl, refl),
+                (
+                  (refl, refl),
+                  (
+                    refl,
+                    (
+                      refl,
+                      (
+                        refl,
+                        (
+                          refl,
+                          (
+                            refl,
+                            (
+                              refl,
+                              (
+                                refl,
+                                (
+                                  refl,
+                                  (
+                                    (refl, refl),
+                                    (
+                                      refl,
+                                      (
+                                        refl,
+                                        (
+                                          refl,
+                                          (
+                                            refl,
+                                            (
+                                              refl,
+                                              (
+                                                refl,
+                                                (
+                                                  refl,
+                                                  (
+                                                    refl,
+                                                    (
+                                                      refl,
+                                                      (
+                                                        refl,
+                                                        (
+                                                          refl,
+                                                          (
+                                                            refl,
+                                                            (
+                                                              refl,
+                                                              (
+                                                                refl,
+                                                                (
+                                                                  refl,
+                                                                  (
+                                                                    refl,
+                                                                    (
+                                                                      refl,
+                                                                      (
+                                                                        refl,
+                                                                        (
+                                                                          refl,
+                                                                          (
+                                                                            refl,
+                                                                            (
+                                                                              refl,
+                                                                              (
+                                                                                refl,
+                                                                                (
+                                                                                  refl,
+                                                                                  (
+                                                                                    refl,
+                                                                                    (
+                                                                                      refl,
+                                                                                      (
+                                                                                        refl,
+                                                                                        (
+                                                                                          refl,
+                                                                                          (
+                                                                                            refl,
+                                                                                            (
+                                                                                              refl,
+                                                                                              (
+                                                                                                refl,
+                                                                                                tt,
+                                                                                              ),
+                                                                                            ),
+                                                                                          ),
+                                                                                        ),
+                                                                                      ),
+                                                                                    ),
+                                                                                  ),
+                                                                                ),
+                                                                              ),
+                                                                            ),
+                                                                          ),
+                                                                        ),
+                                                                      ),
+                                                                    ),
+                                                                  ),
+                                                                ),
+                                                              ),
+                                                            ),
+                                                          ),
+                                                        ),
+                                                      ),
+                                                    ),
+                                                  ),
+                                                ),
+                                              ),
+                                            ),
+                                          ),
+                                        ),
+                                      ),
+                                    ),
+                                  ),
+                                ),
+                              ),
+                            ),
+                          ),
+                        ),
+                      ),
+                    ),
+                  ),
+                ),
+              ),
+            ),
+          ),
+        ),
+      ),
+    ),
+  ),
+)

@@ -1,4 +1,4 @@
--- The theorems on sheets, for a reader to find at once: each is proved in the crate that its line names.
+-- The theorems, for a reader to find at once: each is proved in the crate that its line names.
 -- Assumes nothing.
 
 -- reading and writing: a checked sheet that is written into a buffer with room for it is read back as itself
@@ -51,3 +51,33 @@ pub use Rattle.codec.proofs.OneOutcome.{write-one}
 pub use Rattle.counts.proofs.OneOutcome.{calm-one}
 -- two answers that meet the contract of the worst counts are equal
 pub use Rattle.counts.proofs.OneOutcome.{worst-one}
+-- the runner: a good state in numbers, decoded, is the state
+pub use Rattle.machine.proofs.Good.{decode-of-encode}
+-- numbers pass 8 exactly if they are those of the state that they decode to, 0 from Q and from V on, every cursor in its range
+pub use Rattle.machine.proofs.Good.{good-exactly}
+-- a firing keeps a state good
+pub use Rattle.machine.proofs.Keeps.{fire-keeps}
+-- a feed keeps a state good
+pub use Rattle.machine.proofs.Keeps.{feed-keeps}
+-- a take keeps a state good
+pub use Rattle.machine.proofs.Keeps.{take-keeps}
+-- a firing takes exactly one item, the oldest of its queue, and does what the report's rule says
+pub use Rattle.machine.proofs.Firing.{fire-takes-one}
+-- it puts at most one item on each queue
+pub use Rattle.machine.proofs.Firing.{put-at-most-one}
+-- a run fires an entry exactly if its firing, in the state reached by then, is accepted
+pub use Rattle.machine.proofs.RunLaws.{run-entry-fired}
+-- and skips it exactly if not
+pub use Rattle.machine.proofs.RunLaws.{run-entry-skipped}
+-- bit q of the ready set is 1 exactly if firing q would be accepted
+pub use Rattle.machine.proofs.ReadyLaws.{ready-bit}
+-- the set is 0 only if every queue number is refused
+pub use Rattle.machine.proofs.ReadyLaws.{ready-rest}
+-- and it is 0 if every queue number is refused
+pub use Rattle.machine.proofs.ReadyLaws.{rest-ready}
+-- the count of ones is the number of queues that are ready
+pub use Rattle.machine.proofs.ReadyLaws.{ready-count}
+-- the trailing zeros are the lowest queue that is ready, 32 where none is
+pub use Rattle.machine.proofs.ReadyLaws.{ready-lowest}
+-- one outcome: fresh, feed and fire; take; run; ready
+pub use Rattle.machine.proofs.OneOutcome.{fired-one, taken-one, ran-one, ready-one}

@@ -14,6 +14,7 @@ use Rattle.counts.specs.Answers.{worstOf}
 use Rattle.store.specs.declared.Item.{Item}
 use Rattle.machine.specs.Machine.{Machine}
 use Rattle.machine.specs.Numbers.{stateOf, storeIn}
+use Rattle.rewriter.specs.Calls.{fuseOf, splitOf, reorderOf}
 use Rattle.machine.specs.Calls.{Call, feedOf, takeOf, fireOf, runOf, readyOf}
 
 pub data Case : Type 0 where
@@ -26,6 +27,9 @@ pub data Case : Type 0 where
   takes : (sheet : Sheet) (before : Machine) (queue : ℕ) (answer : Paper) (item : Item) (after : Machine) → Case
   fires : (sheet : Sheet) (before : Machine) (queue : ℕ) (answer : Paper) (after : Machine) → Case
   runs : (sheet : Sheet) (before : Machine) (list : List ℕ) (answer : Paper) (fired skipped : ℕ) (after : Machine) → Case
+  fuses : (sheet : Sheet) (operator : ℕ) (answer : Paper) (after : Sheet) → Case
+  splits : (sheet : Sheet) (operator ways : ℕ) (answer : Paper) (after : Sheet) → Case
+  reorders : (sheet : Sheet) (operator : ℕ) (answer : Paper) (after : Sheet) → Case
   readies : (sheet : Sheet) (before : Machine) (answer : Paper) (set : ℕ) → Case
 
 -- a call's answer and the numbers that it leaves
@@ -42,6 +46,9 @@ Right (feeds t m q x p m') = feedOf t (stateOf m) (storeIn m) q x ≡ leaving p 
 Right (takes t m q p x m') = takeOf t (stateOf m) (storeIn m) q ≡ record { call = leaving p m'; item = x }
 Right (fires t m q p m') = fireOf t (stateOf m) (storeIn m) q ≡ leaving p m'
 Right (runs t m l p fired skipped m') = runOf t (stateOf m) (storeIn m) l ≡ record { call = leaving p m'; fired = fired; skipped = skipped }
+Right (fuses t i p u) = fuseOf t i ≡ record { answer = p; sheet = u }
+Right (splits t i k p u) = splitOf t i k ≡ record { answer = p; sheet = u }
+Right (reorders t i p u) = reorderOf t i ≡ record { answer = p; sheet = u }
 Right (readies t m p set) = (readyOf t (stateOf m) (storeIn m) .answer ≡ p) × (readyOf t (stateOf m) (storeIn m) .set ≡ set)
 
 -- every row of a table

@@ -1,4 +1,5 @@
 pub mod Case
 pub mod SheetA
 pub mod Firings
+pub mod Rewritings
 pub mod Table

@@ -6,14 +6,28 @@ use lib.ListN.{take, replicate}
 use Rattle.sheet.specs.Answer.{accepted, refusedAt, refused}
 use Rattle.sheet.specs.Sheet.{noSheet}
 use lib.IntN.{pos, negsuc}
+use Rattle.store.specs.declared.Item.{Item}
 use Rattle.machine.specs.Machine.{Machine}
-use Rattle.cases.specs.Case.{Case, reads, checks, writes, calms, counts, feeds, takes, fires, runs, readies}
+use Rattle.cases.specs.Case.{Case, reads, checks, writes, calms, counts, feeds, takes, fires, runs, fuses, splits, reorders, readies}
 use Rattle.cases.specs.Firings.{LEAST, MOST, item, of, holding, keep, addOne, countFirst, lineOfSteps, dealThree, gatherTwo, many}
+use Rattle.cases.specs.Rewritings.{fusedA, bytesFusedA, reorderedA, splitA, sheetB, eighteen, nineteen, eighteenSplit}
 use Rattle.cases.specs.SheetA.{bytesA, sheetA, restless}
 
--- sheet A's worked example, run
+-- sheet A's worked example: what is fed, the two items that come out, and the machine then
+abbrev pub fedA : Machine
+fedA =
+    holding
+    ((item (pos 2) (pos 50) (pos 0) (pos 0) ∷ item (pos 1) (pos 40) (pos 0) (pos 0) ∷ item (pos 2) (negsuc 2) (pos 7) (pos 0) ∷ []) ∷ [])
+    []
+
+abbrev pub first : Item
+first = item (pos 2) (pos 45) (pos 0) (pos 0)
+
+abbrev pub second : Item
+second = item (pos 2) (negsuc 7) (pos 7) (pos 0)
+
 abbrev pub worked : Machine
-worked = holding ([] ∷ [] ∷ (item (pos 2) (pos 45) (pos 0) (pos 0) ∷ item (pos 2) (negsuc 7) (pos 7) (pos 0) ∷ []) ∷ []) []
+worked = holding ([] ∷ [] ∷ (first ∷ second ∷ []) ∷ []) []
 
 abbrev pub table : List Case
 table =
@@ -39,10 +53,9 @@ table =
     ∷ reads (255 ∷ 255 ∷ 1 ∷ 0 ∷ replicate 40 0) (refusedAt 1 0) noSheet
     ∷ reads (4 ∷ 0 ∷ 1 ∷ 0 ∷ 1 ∷ 3 ∷ 0 ∷ 16 ∷ []) (refusedAt 1 1) noSheet
     -- sheet A fed as in its worked example, fired 0, 0, 1, 0, 1; then at rest
-    ∷ runs sheetA (holding ((item (pos 2) (pos 50) (pos 0) (pos 0) ∷ item (pos 1) (pos 40) (pos 0) (pos 0) ∷ item (pos 2) (negsuc 2) (pos 7) (pos 0) ∷ []) ∷ []) [])
-        (0 ∷ 0 ∷ 1 ∷ 0 ∷ 1 ∷ []) accepted 5 0 worked
+    ∷ runs sheetA fedA (0 ∷ 0 ∷ 1 ∷ 0 ∷ 1 ∷ []) accepted 5 0 worked
     ∷ readies sheetA worked accepted 0
-    ∷ takes sheetA worked 2 accepted (item (pos 2) (pos 45) (pos 0) (pos 0)) (holding ([] ∷ [] ∷ (item (pos 2) (negsuc 7) (pos 7) (pos 0) ∷ []) ∷ []) [])
+    ∷ takes sheetA worked 2 accepted first (holding ([] ∷ [] ∷ (second ∷ []) ∷ []) [])
     -- Add 1 to the largest number wraps to the smallest
     ∷ fires (lineOfSteps (addOne ∷ [])) (holding ((of MOST ∷ []) ∷ []) []) 0 accepted (holding ([] ∷ (of LEAST ∷ []) ∷ []) [])
     -- Keep at the ends of the range, and with low above high
@@ -52,7 +65,7 @@ table =
     ∷ fires (lineOfSteps (keep (pos 8) (pos 6) ∷ [])) (holding ((of (pos 7) ∷ []) ∷ []) []) 0 accepted (holding ([] ∷ [] ∷ []) [])
     -- a three-way deal of four items: outputs 0, 1, 2, 0; cursor 1
     ∷ runs dealThree (holding ((of (pos 1) ∷ of (pos 2) ∷ of (pos 3) ∷ of (pos 4) ∷ []) ∷ []) []) (0 ∷ 0 ∷ 0 ∷ 0 ∷ []) accepted 4 0
-        (holding ([] ∷ (of (pos 1) ∷ of (pos 4) ∷ []) ∷ (of (pos 2) ∷ []) ∷ (of (pos 3) ∷ []) ∷ []) (pos 1 ∷ []))
+    (holding ([] ∷ (of (pos 1) ∷ of (pos 4) ∷ []) ∷ (of (pos 2) ∷ []) ∷ (of (pos 3) ∷ []) ∷ []) (pos 1 ∷ []))
     -- a gather at cursor 0, its second queue fired: 11 with an item, 10 empty
     ∷ fires gatherTwo (holding ([] ∷ (of (pos 1) ∷ []) ∷ []) []) 1 (refused 11) (holding ([] ∷ (of (pos 1) ∷ []) ∷ []) [])
     ∷ fires gatherTwo (holding [] []) 1 (refused 10) (holding [] [])
@@ -68,4 +81,21 @@ table =
     -- a queue that no operator reads, and one that is no queue, are 9
     ∷ fires sheetA (holding [] []) 2 (refused 9) (holding [] [])
     ∷ fires sheetA (holding [] []) 255 (refused 9) (holding [] [])
+    -- fuse 0 of A: 38 bytes, and three firings of 0 leave the same two items in queue 1
+    ∷ fuses sheetA 0 accepted fusedA
+    ∷ writes fusedA (replicate 38 170) accepted 38 bytesFusedA
+    ∷ runs fusedA fedA (0 ∷ 0 ∷ 0 ∷ []) accepted 3 0 (holding ([] ∷ (first ∷ second ∷ []) ∷ []) [])
+    -- reorder 0 of A; with Keep on field 1 it is 17
+    ∷ reorders sheetA 0 accepted reorderedA
+    ∷ reorders sheetB 0 (refused 17) noSheet
+    -- split 1 of A two ways; split 0 is 17; three ways with 18 queues, and with 19
+    ∷ splits sheetA 1 2 accepted splitA
+    ∷ splits sheetA 0 2 (refused 17) noSheet
+    ∷ splits eighteen 6 3 accepted eighteenSplit
+    ∷ splits nineteen 6 3 (refused 16) noSheet
+    -- a sheet that is not calm; an operator that is not there; a line whose out no line reads
+    ∷ fuses restless 0 (refused 13) noSheet
+    ∷ fuses sheetA 2 (refused 14) noSheet
+    ∷ splits sheetA 1 5 (refused 14) noSheet
+    ∷ fuses sheetA 1 (refused 15) noSheet
     ∷ []

@@ -76,13 +76,15 @@ record Ranges (o : Operator) : Type 0 where
   steps : (k : ℕ) → k < o .count → StepAble (getD (o .steps) k noStep)
 
 -- the steps that a line counts
-line-steps : (n : ℕ) (l : List Step) → all stepPlaces (stepsIn n l) ≡ true → below (chain stepNames (stepsIn n l)) ≡ true → (k : ℕ) → k < n → StepAble (getD l k noStep)
+line-steps : (n : ℕ) (l : List Step) → all stepPlaces (stepsIn n l) ≡ true → below (chain stepNames (stepsIn n l)) ≡ true →
+    (k : ℕ) → k < n → StepAble (getD l k noStep)
 line-steps n l h b k i =
     let f : ℕ → Step = λ (j : ℕ). getD l j noStep in
     let c = sym (all-chain (λ (v : ℕ). ltb v VARIABLES) stepNames (stepsIn n l)) ∙ b in
     step-able (f k) (all-build stepPlaces n f h k i) (all-build (λ (s : Step). below (stepNames s)) n f c k i)
 
-ranges-as : (k : Kind) (o : Operator) → isEmpty k ≡ false → Tidy (shapeOf k (o .count)) o → below (names (viewAs k o)) ≡ true → sound (viewAs k o) ≡ true → Ranges o
+ranges-as : (k : Kind) (o : Operator) → isEmpty k ≡ false → Tidy (shapeOf k (o .count)) o → below (names (viewAs k o)) ≡ true →
+    sound (viewAs k o) ≡ true → Ranges o
 ranges-as Empty o e t b h = never' e
 ranges-as Line o e t b h =
     record { variable = omega (arith, t .variable refl); field = omega (arith, t .field refl); steps = line-steps (o .count) (o .steps) h b }

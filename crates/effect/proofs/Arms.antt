@@ -65,7 +65,8 @@ module _ (o : Operator) (vs : List ℤ) where
       result (sym (ways-at (o .count) (o .outs) n l) ∙ ap (λ (k : ℕ). getD (ways (o .count) (o .outs)) k 0) i) (moved-ways (o .outs) us h)
       ∙ by-kind (λ (y : Op). effect y x vs) o Deal e
     where
-      result : {p q : ℕ} {us ws : List ℤ} → p ≡ q → us ≡ ws → _≡_ {A = Result} (record { puts = p ∷ []; item = x; vars = us }) (record { puts = q ∷ []; item = x; vars = ws })
+      result : {p q : ℕ} {us ws : List ℤ} → p ≡ q → us ≡ ws →
+          _≡_ {A = Result} (record { puts = p ∷ []; item = x; vars = us }) (record { puts = q ∷ []; item = x; vars = ws })
       result a b = cc
 
   pub gather-effect : o .kind ≡ Gather → (x : Item) (us : List ℤ) → us ≡ movedOn (o .variable) (o .count) vs →

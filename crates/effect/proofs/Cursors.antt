@@ -11,7 +11,7 @@ use lib.ListN.{set}
 use lib.IntN.{ℤ, pos, negsuc, natAbs}
 use lib.Signed.{nonNeg, mag}
 use mir.Syntax.{w32, w64}
-use mir.Val.{toZ, ofZ, Fits}
+use mir.Val.{toZ, ofZ, Fits, SFits}
 use mir.Facts.{toZ-pos}
 use borrow.Author.Tests.{ltb-true}
 use Rattle.lists.proofs.Build.{never}
@@ -41,6 +41,9 @@ module _ (z : ℤ) (fits : mag z < 2 ^ 31) (ways : ℕ) (h : inWays z ways ≡ t
 
 pub next-below : (n ways : ℕ) → n < ways → (n + 1) % ways < ways
 next-below n ways h = let k : 0 < ways = omega arith in mod-lt (n + 1) k
+
+pub rest-fits : (m ways : ℕ) → 0 < ways → ways < 256 → SFits w32 (pos (m % ways))
+rest-fits m ways h l = record { sfits = omega (arith, mod-lt m h) }
 
 pub moved-is : (c : ℕ) (vs : List ℤ) (ways n : ℕ) → n ≡ cursorAt c vs → n < ways → ways < 256 → set vs c (toZ w32 ((n + 1) % ways)) ≡ movedOn c ways vs
 moved-is c vs ways n e h l =

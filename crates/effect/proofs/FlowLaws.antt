@@ -47,7 +47,8 @@ module _ (P : Flow → Type 0) (s : Step) (x : Flow) (same : P x) (drop : P (dro
   stepped-keeps = step-by (x .kept)
 
 stepped-vars-length : (s : Step) (x : Flow) → length (stepped s x .vars) ≡ length (x .vars)
-stepped-vars-length s x = stepped-keeps (λ (y : Flow). length (y .vars) ≡ length (x .vars)) s x refl refl (λ p z. refl) (λ e z w. length-set (x .vars) (s .variable) z)
+stepped-vars-length s x =
+    stepped-keeps (λ (y : Flow). length (y .vars) ≡ length (x .vars)) s x refl refl (λ p z. refl) (λ e z w. length-set (x .vars) (s .variable) z)
 
 stepped-item-length : (s : Step) (x : Flow) → length (stepped s x .item .f) ≡ length (x .item .f)
 stepped-item-length s x =

@@ -1,4 +1,6 @@
 // The judge of one operator after the operators kept before it: refusals 4 to 7.
+mod steps;
+
 use operator::Kind;
 use operator::Operator;
 use step::Step;
@@ -126,93 +128,6 @@ fn is_fresh(s: [bool; FLAGS], qs: [u8; operator::PLACES], n: usize) -> bool
     true
 }
 
-fn steps_variables_good(ss: [Step; operator::PLACES], n: usize, variables: u8) -> bool
-    requires { ⌜ n ≤ PLACES ⌝ }
-    ensures { λ r. ⌜ r ≡ all (stepVariable variables) (stepsIn n ss) ⌝ }
-{
-    let mut j = 0;
-    while j < n {
-        let t = ss[j];
-        if !step::variable_good(t, variables) {
-            return false;
-        }
-        j += 1;
-    }
-    true
-}
-
-fn steps_places_good(ss: [Step; operator::PLACES], n: usize) -> bool
-    requires { ⌜ n ≤ PLACES ⌝ }
-    ensures { λ r. ⌜ r ≡ all stepPlaces (stepsIn n ss) ⌝ }
-{
-    let mut j = 0;
-    while j < n {
-        let t = ss[j];
-        if !step::places_good(t) {
-            return false;
-        }
-        j += 1;
-    }
-    true
-}
-
-// The variable that the step names, if any, is not in the set.
-fn step_apart(s: [bool; FLAGS], t: Step) -> bool
-    ensures { λ r. ⌜ r ≡ all (λ v. not (has s v)) (stepNames t) ⌝ }
-{
-    let f = t.func;
-    let w = step::row_of(f);
-    if w.variable {
-        return !flag(s, t.variable);
-    }
-    true
-}
-
-fn steps_apart(s: [bool; FLAGS], ss: [Step; operator::PLACES], n: usize) -> bool
-    requires { ⌜ n ≤ PLACES ⌝ }
-    ensures { λ r. ⌜ r ≡ all (λ t. all (λ v. not (has s v)) (stepNames t)) (stepsIn n ss) ⌝ }
-{
-    let mut j = 0;
-    while j < n {
-        let t = ss[j];
-        if !step_apart(s, t) {
-            return false;
-        }
-        j += 1;
-    }
-    true
-}
-
-// The set and the variable that the step names, if any.
-fn step_flagged(s: [bool; FLAGS], t: Step) -> [bool; FLAGS]
-    requires { ⌜ all (λ v. ltb v FLAGS) (stepNames t) ≡ true ⌝ }
-    ensures { λ r. ⌜ has r ≡ (λ k. member k (stepNames t) || has s k) ⌝ }
-{
-    let f = t.func;
-    let w = step::row_of(f);
-    if w.variable {
-        return flagged(s, t.variable);
-    }
-    s
-}
-
-fn steps_flagged(s: [bool; FLAGS], ss: [Step; operator::PLACES], n: usize) -> [bool; FLAGS]
-    requires { ⌜ (n ≤ PLACES) × (all (λ v. ltb v FLAGS) (chain stepNames (stepsIn n ss)) ≡ true) ⌝ }
-    ensures { λ r. ⌜ has r ≡ (λ k. member k (chain stepNames (stepsIn n ss)) || has s k) ⌝ }
-{
-    let mut r = s;
-    let mut j = 0;
-    while j < n {
-        let t = ss[j];
-        let next = step_flagged(r, t);
-        r = next;
-        j += 1;
-    }
-    r
-}
-
-// The functions below take an operator whose count is in range and that is not empty: what `memory_number` answers 0 to is such a one.
-
 // Variables below V, and none given where none is taken.
 fn variables_good(o: Operator, variables: u8) -> bool
     requires { ⌜ Ready o ⌝ }
@@ -223,7 +138,7 @@ fn variables_good(o: Operator, variables: u8) -> bool
     let steps = o.steps;
     match k {
         Kind::Empty => true,
-        Kind::Line => steps_variables_good(steps, n, variables),
+        Kind::Line => steps::steps_variables_good(steps, n, variables),
         Kind::Latest => o.variable < variables,
         Kind::Double => true,
         Kind::Deal => o.variable < variables,
@@ -241,7 +156,7 @@ pub fn names_apart(s: [bool; FLAGS], o: Operator) -> bool
     let steps = o.steps;
     match k {
         Kind::Empty => true,
-        Kind::Line => steps_apart(s, steps, n),
+        Kind::Line => steps::steps_apart(s, steps, n),
         Kind::Latest => !flag(s, o.variable),
         Kind::Double => true,
         Kind::Deal => !flag(s, o.variable),
@@ -259,7 +174,7 @@ pub fn names_flagged(s: [bool; FLAGS], o: Operator) -> [bool; FLAGS]
     let steps = o.steps;
     match k {
         Kind::Empty => s,
-        Kind::Line => steps_flagged(s, steps, n),
+        Kind::Line => steps::steps_flagged(s, steps, n),
         Kind::Latest => flagged(s, o.variable),
         Kind::Double => s,
         Kind::Deal => flagged(s, o.variable),
@@ -357,7 +272,7 @@ fn fields_good(o: Operator) -> bool
     let steps = o.steps;
     match k {
         Kind::Empty => true,
-        Kind::Line => steps_places_good(steps, n),
+        Kind::Line => steps::steps_places_good(steps, n),
         Kind::Latest => o.field < step::FIELDS,
         Kind::Double => true,
         Kind::Deal => true,

@@ -23,13 +23,13 @@ ghost use Rattle.machine.specs.Numbers.{decode, good};
 ghost use Rattle.machine.specs.Calls.{saved, standing};
 ghost use Rattle.machine.specs.Working.{readersOf, readersWith, raw, putRaw, takeRaw, putsRaw, Room, Fit, fireFound, Answers, Attempts};
 
-pub const QUEUES: usize = 24;
+pub const QUEUES: usize = store::QUEUES;
 
 pub const VARIABLES: usize = 16;
 
 pub const ROOM: u8 = 64;
 
-pub const STORE: usize = 6144;
+pub const STORE: usize = store::STORE;
 
 // The number of items in each queue, and the variables. The items lie in the lent store.
 pub struct State {

@@ -1,11 +1,14 @@
 -- `effect::apply` meets its contract, function by function. Assumes nothing.
 use mathlib.Core.Path.{_≡_, refl, ap, _∙_}
 use mathlib.Core.Bool.{true}
+use Prim.Native.Nat.{ℕ}
+use lib.IntN.{ℤ}
 use borrow.Author.Tests.{not-true}
 use Rattle.step.specs.declared.Func.{Func}
 use Rattle.step.specs.declared.Func.the-variants.{None, Keep, Add, Copy, Count, Stamp}
 use Rattle.step.specs.Step.{rowOf}
-use Rattle.effect.specs.Flow.{does}
+use Rattle.effect.specs.declared.Flow.{Flow}
+use Rattle.effect.specs.Flow.{fieldOf, withField, addOf, does}
 use Rattle.effect.proofs.Back.{back}
 use Rattle.effect.proofs.Lines.{step-of, step-of-dropped}
 use borrow.Author.Needs.{needs}
@@ -14,6 +17,9 @@ use Rattle.effect.proofs.apply.Tie as tie
 
 takes : (f k : Func) → f ≡ k → rowOf k .variable ≡ true → rowOf f .variable ≡ true
 takes f k e h = ap (λ (j : Func). rowOf j .variable) e ∙ h
+
+add-of : (x : Flow) (p : ℕ) (a b : ℤ) → a ≡ b → withField x p (addOf (fieldOf x p) a) ≡ withField x p (addOf (fieldOf x p) b)
+add-of x p a b e = rw e
 
 returns : tie.Need-returns
 returns c = step-of-dropped (c .before .before .args .s) (c .before .before .args .x) (not-true _ (c .if1 .taken))
@@ -52,7 +58,9 @@ cast-count : tie.Need-cast-count
 cast-count c = search needs
 
 count-requires : tie.Need-count-requires
-count-requires c κs = (c .before .before .before .before .before .before .pre .variable (takes (c .before .before .before .before .before .before .args .s .func) Count (search needs) refl), search needs)
+count-requires c κs =
+    let s = c .before .before .before .before .before .before in
+    (s .pre .variable (takes (s .args .s .func) Count (search needs) refl), search needs)
 
 enum-told-6 : tie.Need-enum-told-6
 enum-told-6 c = search needs
@@ -61,7 +69,9 @@ cast-stamp : tie.Need-cast-stamp
 cast-stamp c = search needs
 
 stamp-requires : tie.Need-stamp-requires
-stamp-requires c κs = (c .before .before .before .before .before .before .pre .variable (takes (c .before .before .before .before .before .before .args .s .func) Stamp (search needs) refl), search needs)
+stamp-requires c κs =
+    let s = c .before .before .before .before .before .before in
+    (s .pre .variable (takes (s .args .s .func) Stamp (search needs) refl), search needs)
 
 returns-2 : tie.Need-returns-2
 unfolding does
@@ -79,7 +89,7 @@ returns-4 : tie.Need-returns-4
 unfolding does
 returns-4 c =
     let a = c .before .before .before .before .before .before .before .args in
-    step-of (a .s) (a .x) Add _ (search needs) (search needs) (simp (back (a .s .low) (search needs)) at (c .add .ensures))
+    step-of (a .s) (a .x) Add _ (search needs) (search needs) (c .add .ensures ∙ add-of (a .x) (a .s .p) _ _ (back (a .s .low) (search needs)))
 
 returns-5 : tie.Need-returns-5
 unfolding does

@@ -28,7 +28,7 @@ with-field-requires c κs = search needs
 returns : tie.Need-returns
 returns c =
     let a = c .before .before .before .before .before .args in
-    let n = back (getD (a .x .vars) (a .v) (pos 0)) (search needs) in
+    let n = back (getD (a .x .vars) (a .v) (pos 0)) (c .before .before .before .n .given) in
     let f = c .before .before .wrap-add in
     let w = back (f .result) (f .ok) ∙ (simp n at (f .ensures)) in
     simp w at (c .with-field .ensures)

@@ -14,12 +14,14 @@ between-is : (low x high l v h : ℤ) → l ≡ low → v ≡ x → h ≡ high �
 between-is low x high l v h a b c = rw (a, b, c)
 
 test-is : (c : tie.After-is-between) →
-    c .is-between .result ≡ between (c .before .before .args .low) (fieldOf (c .before .before .args .x) (c .before .before .args .p)) (c .before .before .args .high)
+    c .is-between .result
+    ≡ between (c .before .before .args .low) (fieldOf (c .before .before .args .x) (c .before .before .args .p)) (c .before .before .args .high)
 test-is c =
     let b = c .before .before in
     let f = c .before .field in
+    let v = back (f .result) (f .ok) ∙ f .ensures in
     c .is-between .ensures
-    ∙ between-is (b .args .low) (fieldOf (b .args .x) (b .args .p)) (b .args .high) _ _ _ (toZ-ofZ (b .fits .low)) (back (f .result) (f .ok) ∙ f .ensures) (toZ-ofZ (b .fits .high))
+    ∙ between-is (b .args .low) (fieldOf (b .args .x) (b .args .p)) (b .args .high) _ _ _ (toZ-ofZ (b .fits .low)) v (toZ-ofZ (b .fits .high))
 
 field-requires : tie.Need-field-requires
 field-requires c κs = search needs

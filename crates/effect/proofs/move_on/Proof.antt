@@ -1,6 +1,6 @@
 -- `effect::move_on` meets its contract. Assumes nothing.
 use native.Mathlib.Omega.{arith}
-use Rattle.effect.proofs.Cursors.{next-below, moved-is}
+use Rattle.effect.proofs.Cursors.{rest-fits, moved-is}
 use borrow.Author.Needs.{needs}
 use Rattle.effect.proofs.move_on.Statement.{statement}
 use Rattle.effect.proofs.move_on.Tie as tie
@@ -14,22 +14,20 @@ add-n c = search needs
 rem-n : tie.Need-rem-n
 rem-n c = search needs
 
+-- stands before the cast, so that a cursor that moves elsewhere is refused for where it moves
+returns : tie.Need-returns
+returns c =
+    let a = c .before .args in
+    moved-is (a .v) (a .vars) (a .ways) (c .cursor .result) (c .cursor .ensures .0) (c .cursor .ensures .1) (search needs)
+
 cast-u : tie.Need-cast-u
-cast-u c =
-    let b = c in
-    record { sfits = omega (arith, next-below (b .cursor .result) (b .before .args .ways) (b .cursor .ensures .1)) }
+cast-u c = rest-fits _ (c .before .args .ways) (omega arith) (search needs)
 
 mul-u : tie.Need-mul-u
 mul-u c = search needs
 
 array-set-from-u : tie.Need-array-set-from-u
 array-set-from-u c = search needs
-
-returns : tie.Need-returns
-returns c =
-    let b = c in
-    let a = b .before .args in
-    moved-is (a .v) (a .vars) (a .ways) (b .cursor .result) (b .cursor .ensures .0) (b .cursor .ensures .1) (search needs)
 
 pub move-on-spec : {M : Type 1} → statement M
 move-on-spec =

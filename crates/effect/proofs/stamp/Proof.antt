@@ -18,7 +18,7 @@ with-field-requires c κs = search needs
 returns : tie.Need-returns
 returns c =
     let a = c .before .before .before .args in
-    simp (back (getD (a .x .vars) (a .v) (pos 0)) (search needs)) at (c .with-field .ensures)
+    simp (back (getD (a .x .vars) (a .v) (pos 0)) (c .before .w .given)) at (c .with-field .ensures)
 
 pub stamp-spec : {M : Type 1} → statement M
 stamp-spec = tie.close (tie.spec mul-w array-copy-out-w with-field-requires returns)

@@ -6,7 +6,7 @@ use mir.Syntax.{w32}
 use mir.Val.{toZ, ofZ}
 use borrow.Author.Needs.{needs}
 use borrow.Author.Tests.{lt-ltb, le-ltb, not-true, not-false}
-use Rattle.step.specs.Step.{knownFunc, rowOf, fieldPlace, unusedZ, stepPlaces}
+use Rattle.step.specs.Step.{FIELDS, knownFunc, rowOf, fieldPlace, unusedZ, stepPlaces}
 use Rattle.step.specs.declared.Row.{Row}
 use Rattle.step.proofs.places_good.Statement.{statement}
 use Rattle.step.proofs.places_good.Tie as tie
@@ -21,8 +21,8 @@ high-back d = search needs
 is-known : (d : tie.Else1) → knownFunc (d .before .before .args .t .func) ≡ true
 is-known d = sym (d .before .known .ensures) ∙ not-false _ (d .if1 .left)
 
-p-below : (d : tie.Else2) → ltb (d .before .before .before .before .before .args .t .p) 4 ≡ true
-p-below d = lt-ltb _ 4 (d .if2 .left)
+p-below : (d : tie.Else2) → ltb (d .before .before .before .before .before .args .t .p) FIELDS ≡ true
+p-below d = lt-ltb _ FIELDS (d .if2 .left)
 
 -- what each call ensures, at the paper's row and at the number itself
 r-told : (d : tie.After-field-place) →
@@ -51,7 +51,7 @@ row-of-requires c κs = search needs
 
 returns-2 : tie.Need-returns-2
 unfolding stepPlaces
-returns-2 c = simp (is-known (c .before .before .before), le-ltb _ 4 (c .if2 .taken))
+returns-2 c = simp (is-known (c .before .before .before), le-ltb _ FIELDS (c .if2 .taken))
 
 field-place-requires : tie.Need-field-place-requires
 field-place-requires c κs = search needs

@@ -1,0 +1,34 @@
+-- What each rewriting answers on any sheet in memory: the sheet's own refusal, 13 where it is not calm, then its own.
+use Prim.Native.Nat.{ℕ}
+use mathlib.Core.Bool.{cond}
+use Rattle.operator.specs.Op.{Abstract}
+use Rattle.sheet.specs.declared.Sheet.{Sheet}
+use Rattle.sheet.specs.Answer.{Paper, accepted, refused, isAccepted}
+use Rattle.sheet.specs.Sheet.{viewSheet, memorySheet, noSheet}
+use Rattle.sheet.specs.Check.{checkOf}
+use Rattle.counts.specs.Calm.{isCalm}
+use Rattle.rewriter.specs.Rewrite.{Rewritten, refuse, rewritten, fuse, split, reorder}
+
+-- the new sheet; on a refusal the one fixed sheet
+pub record Rewriting : Type 0 where
+  pub answer : Paper
+  pub sheet : Sheet
+
+abbrev pub refusing : Paper → Rewriting
+refusing p = record { answer = p; sheet = noSheet }
+
+abbrev pub answering : Rewritten → Rewriting
+answering (refuse k) = refusing (refused k)
+answering (rewritten a) = record { answer = accepted; sheet = memorySheet a }
+
+abbrev pub ifCalm : Sheet → Rewritten → Rewriting
+ifCalm t r = cond (isAccepted (checkOf t)) (cond (isCalm (viewSheet t)) (answering r) (refusing (refused 13))) (refusing (checkOf t))
+
+unfoldable pub fuseOf : Sheet → ℕ → Rewriting
+fuseOf t i = ifCalm t (fuse (viewSheet t) i)
+
+unfoldable pub splitOf : Sheet → ℕ → ℕ → Rewriting
+splitOf t i k = ifCalm t (split (viewSheet t) i k)
+
+unfoldable pub reorderOf : Sheet → ℕ → Rewriting
+reorderOf t i = ifCalm t (reorder (viewSheet t) i)

@@ -1,0 +1,1 @@
+// No code yet: what fuse, split and reorder answer, as definitions.

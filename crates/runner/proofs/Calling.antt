@@ -1,0 +1,154 @@
+-- How each call goes by the test of sheet, state and store: where it accepts, what the call's inner function answers; where it refuses, that refusal, and all as it was.
+-- Assumes nothing.
+use mathlib.Core.Path.{_≡_, refl, sym, ap, _∙_, subst}
+use mathlib.Core.Bool.{Bool, true, false, cond}
+use mathlib.Core.List.{List}
+use mathlib.Core.Option.{some, none}
+use Prim.Native.Nat.{ℕ}
+use native.Mathlib.Omega.{arith}
+use lib.Count.{ones, trailingZeros}
+use lib.IntN.{ℤ}
+use Rattle.sheet.specs.declared.Answer.{Answer}
+use Rattle.sheet.specs.declared.Answer.the-variants.{Done}
+use Rattle.sheet.specs.declared.Sheet.{Sheet}
+use Rattle.sheet.specs.Answer.{Paper, accepted, refused, isAccepted, paper}
+use Rattle.sheet.specs.Sheet.{viewSheet}
+use Rattle.sheet.specs.Check.{checkOf}
+use Rattle.sheet.proofs.AnswerLaws.{none-apart}
+use Rattle.store.specs.declared.Item.{Item}
+use Rattle.machine.specs.declared.ReadySet.{ReadySet}
+use Rattle.machine.specs.declared.State.{State}
+use Rattle.machine.specs.declared.Taken.{Taken}
+use Rattle.machine.specs.Machine.{fireM, feedM, takeM, runM}
+use Rattle.machine.specs.Ready.{SET, readySet}
+use Rattle.machine.specs.Numbers.{decode, good}
+use Rattle.machine.specs.Calls.{Call, TakeCall, RunCall, ReadyCall, noItem, refusing, standing, saved, savedTake, savedRun, readyCall}
+use Rattle.machine.specs.Calls.{fireOf, feedOf, takeOf, runOf, readyOf}
+use Rattle.machine.specs.Working.{Stands, Answers, TakeAnswers, RunAnswers, ReadyAnswers}
+
+-- the test accepts only where both of its parts do
+both-stand : (p : Paper) (b : Bool) → cond (isAccepted p) (cond b accepted (refused 8)) p ≡ accepted → (p ≡ accepted) × (b ≡ true)
+both-stand none true e = (refl, refl)
+both-stand none false e = absurd (none-apart 8 (sym e))
+both-stand (some x) b e = let z : _≡_ {A = ℕ} 0 1 = cc in absurd (omega arith)
+
+-- the refusing call, answered
+refused-answers : (c : Call) (x : Answer) (st : State) (s : List ℤ) → c ≡ refusing (paper x) st s → Answers c x st s
+refused-answers c x st s e =
+    record {
+      answered = sym (ap (λ (d : Call). d .answer) e);
+      stated = sym (ap (λ (d : Call). d .state) e);
+      stored = sym (ap (λ (d : Call). d .store) e);
+    }
+
+-- a ready set, answered
+set-answers : (c : ReadyCall) (x : Answer) (n : ℕ) (r : ReadySet) → c ≡ readyCall (paper x) n →
+    (r .answer ≡ x) × (r .set ≡ n) × (r .count ≡ ones n) × (r .lowest ≡ trailingZeros SET n) → ReadyAnswers c r
+set-answers c x n r e d =
+    record {
+      answered = ap paper (d .0) ∙ sym (ap (λ (k : ReadyCall). k .answer) e);
+      bits = d .1 ∙ sym (ap (λ (k : ReadyCall). k .set) e);
+      many = d .2 ∙ sym (ap (λ (k : ReadyCall). k .count) e);
+      least = d .3 ∙ sym (ap (λ (k : ReadyCall). k .lowest) e);
+    }
+
+-- a is what the test answered, as a match on it has it
+module _ (t : Sheet) (st : State) (s : List ℤ) (a : Answer) (h : paper a ≡ standing t st s) where
+  -- ---- the test accepts
+
+  module _ (e : a ≡ Done) where
+    accepts : standing t st s ≡ accepted
+    accepts = sym h ∙ ap paper e
+
+    pub stands-of-done : Stands t st s
+    stands-of-done = let p = both-stand (checkOf t) (good (viewSheet t) st s) accepts in record { sheet = p .0; numbers = p .1 }
+
+    pub fire-done : (q : ℕ) → fireOf t st s q ≡ saved st s (fireM (viewSheet t) (decode st s) q)
+    unfolding fireOf
+    fire-done q = rw accepts
+
+    pub feed-done : (q : ℕ) (x : Item) → feedOf t st s q x ≡ saved st s (feedM (viewSheet t) (decode st s) q x)
+    unfolding feedOf
+    feed-done q x = rw accepts
+
+    pub take-done : (q : ℕ) → takeOf t st s q ≡ savedTake st s (takeM (viewSheet t) (decode st s) q)
+    unfolding takeOf
+    take-done q = rw accepts
+
+    pub run-done : (qs : List ℕ) → runOf t st s qs ≡ savedRun (runM (viewSheet t) qs (decode st s))
+    unfolding runOf
+    run-done qs = rw accepts
+
+    pub ready-done : readyOf t st s ≡ readyCall accepted (readySet (viewSheet t) (decode st s))
+    unfolding readyOf
+    ready-done = rw accepts
+
+    -- what the inner function answers is what the call has to
+    module _ (r : Answer) (u : State) (v : List ℤ) where
+      pub fire-answers : (q : ℕ) → Answers (saved st s (fireM (viewSheet t) (decode st s) q)) r u v → Answers (fireOf t st s q) r u v
+      fire-answers q k = subst (λ (c : Call). Answers c r u v) (sym (fire-done q)) k
+
+      pub feed-answers : (q : ℕ) (x : Item) → Answers (saved st s (feedM (viewSheet t) (decode st s) q x)) r u v → Answers (feedOf t st s q x) r u v
+      feed-answers q x k = subst (λ (c : Call). Answers c r u v) (sym (feed-done q x)) k
+
+      pub take-answers : (q : ℕ) (x : Item) → TakeAnswers (savedTake st s (takeM (viewSheet t) (decode st s) q)) r x u v →
+          TakeAnswers (takeOf t st s q) r x u v
+      take-answers q x k = subst (λ (c : TakeCall). TakeAnswers c r x u v) (sym (take-done q)) k
+
+      pub run-answers : (qs : List ℕ) (m n : ℕ) → RunAnswers (savedRun (runM (viewSheet t) qs (decode st s))) r m n u v →
+          RunAnswers (runOf t st s qs) r m n u v
+      run-answers qs m n k = subst (λ (c : RunCall). RunAnswers c r m n u v) (sym (run-done qs)) k
+
+    pub ready-answers : (n : ℕ) (r : ReadySet) → n ≡ readySet (viewSheet t) (decode st s) →
+        (r .answer ≡ Done) × (r .set ≡ n) × (r .count ≡ ones n) × (r .lowest ≡ trailingZeros SET n) → ReadyAnswers (readyOf t st s) r
+    ready-answers n r k d = set-answers (readyOf t st s) Done n r (ready-done ∙ ap (λ (m : ℕ). readyCall accepted m) (sym k)) d
+
+  -- ---- the test refuses
+
+  module _ (x : Answer) (e : a ≡ x) (f : isAccepted (paper x) ≡ false) where
+    refuses : standing t st s ≡ paper x
+    refuses = sym h ∙ ap paper e
+
+    pub fire-refuses : (q : ℕ) → Answers (fireOf t st s q) x st s
+    unfolding fireOf
+    fire-refuses q = refused-answers (fireOf t st s q) x st s (rw (refuses, f))
+
+    pub feed-refuses : (q : ℕ) (y : Item) → Answers (feedOf t st s q y) x st s
+    unfolding feedOf
+    feed-refuses q y = refused-answers (feedOf t st s q y) x st s (rw (refuses, f))
+
+    take-refused : (q : ℕ) → takeOf t st s q ≡ record { call = refusing (paper x) st s; item = noItem }
+    unfolding takeOf
+    take-refused q = rw (refuses, f)
+
+    pub take-refuses : (q : ℕ) (r : Taken) → (r .answer ≡ x) × (r .item ≡ noItem) × (r .state ≡ st) →
+        TakeAnswers (takeOf t st s q) (r .answer) (r .item) (r .state) s
+    take-refuses q r d =
+        let k = take-refused q in
+        record {
+          call =
+              record {
+                answered = ap paper (d .0) ∙ sym (ap (λ (c : TakeCall). c .call .answer) k);
+                stated = d .2 ∙ sym (ap (λ (c : TakeCall). c .call .state) k);
+                stored = sym (ap (λ (c : TakeCall). c .call .store) k);
+              };
+          taken = d .1 ∙ sym (ap (λ (c : TakeCall). c .item) k);
+        }
+
+    run-refused : (qs : List ℕ) → runOf t st s qs ≡ record { call = refusing (paper x) st s; fired = 0; skipped = 0 }
+    unfolding runOf
+    run-refused qs = rw (refuses, f)
+
+    pub run-refuses : (qs : List ℕ) → RunAnswers (runOf t st s qs) x 0 0 st s
+    run-refuses qs =
+        let k = run-refused qs in
+        record {
+          call = refused-answers (runOf t st s qs .call) x st s (ap (λ (c : RunCall). c .call) k);
+          firings = sym (ap (λ (c : RunCall). c .fired) k);
+          skips = sym (ap (λ (c : RunCall). c .skipped) k);
+        }
+
+    pub ready-refuses : (r : ReadySet) → (r .answer ≡ x) × (r .set ≡ 0) × (r .count ≡ ones 0) × (r .lowest ≡ trailingZeros SET 0) →
+        ReadyAnswers (readyOf t st s) r
+    unfolding readyOf
+    ready-refuses r d = set-answers (readyOf t st s) x 0 r (rw (refuses, f)) d

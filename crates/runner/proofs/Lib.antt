@@ -1,0 +1,5 @@
+pub mod Found
+pub mod Calling
+pub mod Taking
+pub mod Readies
+pub mod Running
