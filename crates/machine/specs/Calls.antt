@@ -11,6 +11,7 @@ use Rattle.sheet.specs.declared.Sheet.{Sheet}
 use Rattle.sheet.specs.Answer.{Paper, accepted, refused, isAccepted, paper}
 use Rattle.sheet.specs.Sheet.{viewSheet}
 use Rattle.sheet.specs.Check.{checkOf}
+use Rattle.format.specs.Head.{VARIABLES}
 use Rattle.store.specs.Store.{STORE, FIELDS, QUEUES}
 use Rattle.store.specs.declared.Item.{Item}
 use Rattle.machine.specs.declared.State.{State}
@@ -95,7 +96,7 @@ readyOf t st s =
 
 -- a fresh start takes no sheet: 8 for a wrong length, else zeros everywhere
 abbrev pub freshState : State
-freshState = record { counts = replicate QUEUES 0; vars = replicate 16 (pos 0) }
+freshState = record { counts = replicate QUEUES 0; vars = replicate VARIABLES (pos 0) }
 
 unfoldable pub freshOf : State → List ℤ → Call
 freshOf st s =
