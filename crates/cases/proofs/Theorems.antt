@@ -46,7 +46,7 @@ pub use Rattle.codec.proofs.OneOutcome.{front-one}
 -- two answers that meet the contract of reading are equal
 pub use Rattle.codec.proofs.OneOutcome.{read-one}
 -- two answers that meet the contract of writing are equal, and so are the two buffers
-pub use Rattle.codec.proofs.OneOutcome.{write-one}
+pub use Rattle.codec.proofs.OneOutcome.{write-one, again-one}
 -- two answers that meet the contract of the calm test are equal
 pub use Rattle.counts.proofs.OneOutcome.{calm-one}
 -- two answers that meet the contract of the worst counts are equal

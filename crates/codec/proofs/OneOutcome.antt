@@ -10,7 +10,7 @@ use Rattle.sheet.proofs.AnswerLaws.{paper-injective}
 use Rattle.codec.specs.declared.Front.{Front}
 use Rattle.codec.specs.declared.ReadSheet.{ReadSheet}
 use Rattle.codec.specs.declared.Written.{Written}
-use Rattle.codec.specs.Fronts.{Fronts, Reads, Writes}
+use Rattle.codec.specs.Fronts.{Fronts, Reads, Writes, Agains}
 
 front-eq : {a a' : Answer} {t t' : Sheet} {n n' : ℕ} {w w' : Bool} → a ≡ a' → t ≡ t' → n ≡ n' → w ≡ w' →
     _≡_ {A = Front} (record { answer = a; sheet = t; end = n; whole = w }) (record { answer = a'; sheet = t'; end = n'; whole = w' })
@@ -33,3 +33,7 @@ read-one s r r' f g = read-eq (paper-injective (r .answer) (r' .answer) (f .answ
 pub write-one : (t : Sheet) (l m m' : List ℕ) (r r' : Written) → Writes t l m r → Writes t l m' r' → (r ≡ r') × (m ≡ m')
 write-one t l m m' r r' f g =
     (written-eq (paper-injective (r .answer) (r' .answer) (f .answer ∙ sym (g .answer))) (f .length ∙ sym (g .length)), f .buffer ∙ sym (g .buffer))
+
+pub again-one : (t : Sheet) (l m m' : List ℕ) (r r' : ReadSheet) → Agains t l m r → Agains t l m' r' → (r ≡ r') × (m ≡ m')
+again-one t l m m' r r' f g =
+    (read-eq (paper-injective (r .answer) (r' .answer) (f .answer ∙ sym (g .answer))) (f .sheet ∙ sym (g .sheet)), f .buffer ∙ sym (g .buffer))

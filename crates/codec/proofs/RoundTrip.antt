@@ -72,7 +72,7 @@ module _ (t : Sheet) (l m : List ℕ) (w : Written) (wrote : Writes t l m w) whe
         let b = ap length (wrote .buffer ∙ ap (λ (x : Writing). x .buffer) e) ∙ length-append bytes (drop (length bytes) l) in
         omega arith
 
-    pub again-done : HeldSheet t → (r : ReadSheet) → Reads (take (w .length) m) r → Agains t l r
+    pub again-done : HeldSheet t → (r : ReadSheet) → Reads (take (w .length) m) r → Agains t l m r
     again-done held r reads =
         let e =
         ap (λ (n : ℕ). readOf (take n m)) (wrote .length) ∙ ap (λ (b : List ℕ). readOf (take (writeOf t l .length) b)) (wrote .buffer)
@@ -83,10 +83,11 @@ module _ (t : Sheet) (l m : List ℕ) (w : Written) (wrote : Writes t l m w) whe
           same = λ good room. (a, s);
           answer = a ∙ sym answered;
           sheet = s ∙ ap (λ (p : Paper). cond (isAccepted p) t noSheet) (sym answered);
+          buffer = wrote .buffer;
         }
 
   -- a writing's refusal is the answer, with the one fixed sheet
-  pub again-refused : (r : ReadSheet) → isAccepted (paper (w .answer)) ≡ false → paper (r .answer) ≡ paper (w .answer) → r .sheet ≡ noSheet → Agains t l r
+  pub again-refused : (r : ReadSheet) → isAccepted (paper (w .answer)) ≡ false → paper (r .answer) ≡ paper (w .answer) → r .sheet ≡ noSheet → Agains t l m r
   again-refused r f a s =
       let e = wrote .answer in
       record {
@@ -96,4 +97,5 @@ module _ (t : Sheet) (l m : List ℕ) (w : Written) (wrote : Writes t l m w) whe
             ∙ ap isAccepted (e ∙ ap (λ (x : Writing). x .answer) (write-of-room t l (sheetBytes (viewSheet t)) good refl room)));
         answer = a ∙ e;
         sheet = s ∙ ap (λ (b : Bool). cond b t noSheet) (sym f ∙ ap isAccepted e);
+        buffer = wrote .buffer;
       }

@@ -36,7 +36,8 @@ pub record Writes (t : Sheet) (before after : List ℕ) (r : Written) : Type 0 w
   pub buffer : after ≡ writeOf t before .buffer
 
 -- a sheet that is written and read back: itself where the check and the buffer allow it, else the writing's refusal
-pub record Agains (t : Sheet) (before : List ℕ) (r : ReadSheet) : Type 0 where
+pub record Agains (t : Sheet) (before after : List ℕ) (r : ReadSheet) : Type 0 where
   pub same : checkOf t ≡ accepted → lib.ListN.length (sheetBytes (viewSheet t)) ≤ lib.ListN.length before → (paper (r .answer) ≡ accepted) × (r .sheet ≡ t)
   pub answer : paper (r .answer) ≡ writeOf t before .answer
   pub sheet : r .sheet ≡ cond (isAccepted (writeOf t before .answer)) t noSheet
+  pub buffer : after ≡ writeOf t before .buffer

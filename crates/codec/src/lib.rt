@@ -221,7 +221,7 @@ pub fn write(t: Sheet, buffer: &mut [u8]) -> Written
 
 // Writes a sheet and reads it back: the round trip, of the program.
 pub fn again(t: Sheet, buffer: &mut [u8]) -> ReadSheet
-    ensures { λ r. ⌜ Agains t (now (buffer .entry)) r ⌝ }
+    ensures { λ r. ⌜ Agains t (now (buffer .entry)) (now (buffer .exit)) r ⌝ }
 {
     let w = write(t, buffer);
     let a = w.answer;
