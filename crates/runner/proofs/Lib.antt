@@ -3,3 +3,4 @@ pub mod Calling
 pub mod Taking
 pub mod Readies
 pub mod Running
+pub mod Rest
