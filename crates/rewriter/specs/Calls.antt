@@ -1,9 +1,11 @@
 -- What each rewriting answers on any sheet in memory: the sheet's own refusal, 13 where it is not calm, then its own.
 use Prim.Native.Nat.{ℕ}
+use mathlib.Core.Path.{_≡_}
 use mathlib.Core.Bool.{cond}
 use Rattle.operator.specs.Op.{Abstract}
+use Rattle.sheet.specs.declared.Answer.{Answer}
 use Rattle.sheet.specs.declared.Sheet.{Sheet}
-use Rattle.sheet.specs.Answer.{Paper, accepted, refused, isAccepted}
+use Rattle.sheet.specs.Answer.{Paper, accepted, refused, isAccepted, paper}
 use Rattle.sheet.specs.Sheet.{viewSheet, memorySheet, noSheet}
 use Rattle.sheet.specs.Check.{checkOf}
 use Rattle.counts.specs.Calm.{isCalm}
@@ -32,3 +34,8 @@ splitOf t i k = ifCalm t (split (viewSheet t) i k)
 
 unfoldable pub reorderOf : Sheet → ℕ → Rewriting
 reorderOf t i = ifCalm t (reorder (viewSheet t) i)
+
+-- answer and sheet are the rewriting's
+pub record Rewrites (c : Rewriting) (answer : Answer) (sheet : Sheet) : Type 0 where
+  pub answered : paper answer ≡ c .answer
+  pub made : sheet ≡ c .sheet

@@ -17,7 +17,7 @@ use Rattle.machine.specs.Numbers.{decode}
 use Rattle.machine.specs.Calls.{saved, fireOf, readyOf}
 use Rattle.machine.specs.Working.{Stands}
 use Rattle.machine.proofs.ReadyLaws.{ready-rest, rest-ready}
-use Rattle.runner.proofs.Taking.{reads-in-table}
+use Rattle.calls.proofs.Taking.{reads-in-table}
 
 saved-accepted : (st : State) (s : List ℤ) (o : Outcome) → isAccepted (saved st s o .answer) ≡ accepts o
 saved-accepted st s (refuse k) = refl

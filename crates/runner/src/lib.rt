@@ -23,24 +23,13 @@ ghost use Rattle.machine.specs.Numbers.{decode};
 ghost use Rattle.machine.specs.Calls.{saved, savedTake, savedRun, fireOf, feedOf, takeOf, runOf, readyOf, freshOf, noItem};
 ghost use Rattle.machine.specs.Working.{Stands, Fit, fireFound, Answers, TakeAnswers, RunAnswers, ReadyAnswers};
 
-// Fires the operator that reads queue q, where sheet and state are good.
-fn fire_known(t: Sheet, q: u8, state: State, store: &mut [i32]) -> Fired
-    requires { ⌜ Stands t state (now store) ⌝ }
-    ensures { λ r. ⌜ Answers (saved state (now (store .entry)) (fireM (viewSheet t) (decode state (now (store .entry))) q)) (r .answer) (r .state) (now (store .exit)) ⌝ }
-{
-    let rs = machine::readers(t);
-    let i = machine::reader_at(rs, q);
-    let o = t.operators[i % 16];
-    machine::fire_found(i < 16, o, q, state, &mut *store)
-}
-
 // Fires the operator that reads queue q.
 pub fn fire(t: Sheet, state: State, store: &mut [i32], q: u8) -> Fired
     ensures { λ r. ⌜ Answers (fireOf t state (now (store .entry)) q) (r .answer) (r .state) (now (store .exit)) ⌝ }
 {
-    let a = machine::stands(t, state, &*store);
+    let a = standing::stands(t, state, &*store);
     match a {
-        Answer::Done => fire_known(t, q, state, &mut *store),
+        Answer::Done => calls::fire_known(t, q, state, &mut *store),
         Answer::RefusedAt { number, spot } => Fired {
             answer: Answer::RefusedAt { number, spot },
             state,
@@ -49,25 +38,6 @@ pub fn fire(t: Sheet, state: State, store: &mut [i32], q: u8) -> Fired
             answer: Answer::Refused { number },
             state,
         },
-    }
-}
-
-fn feed_known(t: Sheet, q: u8, x: Item, state: State, store: &mut [i32]) -> Fired
-    requires { ⌜ Stands t state (now store) ⌝ }
-    ensures { λ r. ⌜ Answers (saved state (now (store .entry)) (feedM (viewSheet t) (decode state (now (store .entry))) q x)) (r .answer) (r .state) (now (store .exit)) ⌝ }
-{
-    if t.inputs <= q {
-        return machine::no(9, state);
-    }
-    let counts = state.counts;
-    if machine::is_full(counts, q) {
-        return machine::no(12, state);
-    }
-    let counts = machine::put(counts, &mut *store, q, x);
-    let vars = state.vars;
-    Fired {
-        answer: Answer::Done,
-        state: State { counts, vars },
     }
 }
 
@@ -75,9 +45,9 @@ fn feed_known(t: Sheet, q: u8, x: Item, state: State, store: &mut [i32]) -> Fire
 pub fn feed(t: Sheet, state: State, store: &mut [i32], q: u8, x: Item) -> Fired
     ensures { λ r. ⌜ Answers (feedOf t state (now (store .entry)) q x) (r .answer) (r .state) (now (store .exit)) ⌝ }
 {
-    let a = machine::stands(t, state, &*store);
+    let a = standing::stands(t, state, &*store);
     match a {
-        Answer::Done => feed_known(t, q, x, state, &mut *store),
+        Answer::Done => calls::feed_known(t, q, x, state, &mut *store),
         Answer::RefusedAt { number, spot } => Fired {
             answer: Answer::RefusedAt { number, spot },
             state,
@@ -89,103 +59,15 @@ pub fn feed(t: Sheet, state: State, store: &mut [i32], q: u8, x: Item) -> Fired
     }
 }
 
-fn no_take(answer: Answer, state: State) -> Taken
-    ensures { λ r. ⌜ (r .answer ≡ answer) × (r .item ≡ noItem) × (r .state ≡ state) ⌝ }
-{
-    Taken {
-        answer,
-        item: Item {
-            f: [0; store::FIELDS],
-        },
-        state,
-    }
-}
-
-// An output is a queue below Q that no operator reads.
-fn is_output(t: Sheet, q: u8) -> bool
-    requires { ⌜ checkOf t ≡ accepted ⌝ }
-    ensures { λ r. ⌜ r ≡ isOutput (viewSheet t) q ⌝ }
-{
-    if t.queues <= q {
-        return false;
-    }
-    let rs = machine::readers(t);
-    machine::reader_at(rs, q) == 16
-}
-
-fn take_known(t: Sheet, q: u8, state: State, store: &mut [i32]) -> Taken
-    requires { ⌜ Stands t state (now store) ⌝ }
-    ensures { λ r. ⌜ TakeAnswers (savedTake state (now (store .entry)) (takeM (viewSheet t) (decode state (now (store .entry))) q)) (r .answer) (r .item) (r .state) (now (store .exit)) ⌝ }
-{
-    if !is_output(t, q) {
-        return no_take(Answer::Refused { number: 9 }, state);
-    }
-    let i = q as usize;
-    let counts = state.counts;
-    if counts[i] == 0 {
-        return no_take(Answer::Refused { number: 10 }, state);
-    }
-    let item = store::first(&*store, i);
-    let counts = machine::take_one(counts, &mut *store, q);
-    let vars = state.vars;
-    Taken {
-        answer: Answer::Done,
-        item,
-        state: State { counts, vars },
-    }
-}
-
 // Removes an output's oldest item and answers it.
 pub fn take(t: Sheet, state: State, store: &mut [i32], q: u8) -> Taken
     ensures { λ r. ⌜ TakeAnswers (takeOf t state (now (store .entry)) q) (r .answer) (r .item) (r .state) (now (store .exit)) ⌝ }
 {
-    let a = machine::stands(t, state, &*store);
+    let a = standing::stands(t, state, &*store);
     match a {
-        Answer::Done => take_known(t, q, state, &mut *store),
-        Answer::RefusedAt { number, spot } => no_take(Answer::RefusedAt { number, spot }, state),
-        Answer::Refused { number } => no_take(Answer::Refused { number }, state),
-    }
-}
-
-// 1 for an accepted firing, 0 for a refused one.
-fn one_if_done(a: Answer) -> usize
-    ensures { λ r. ⌜ (r ≡ bit (isAccepted (paper a))) × (r ≤ 1) ⌝ }
-{
-    match a {
-        Answer::Done => 1,
-        Answer::RefusedAt { number: _, spot: _ } => 0,
-        Answer::Refused { number: _ } => 0,
-    }
-}
-
-// Fires each queue of a list in turn, from good numbers; sheet and numbers are not looked at again.
-fn run_known(t: Sheet, state: State, store: &mut [i32], list: &[u8]) -> Ran
-    requires { ⌜ Stands t state (now store) ⌝ }
-    ensures { λ r. ⌜ RunAnswers (savedRun (runM (viewSheet t) (now (list .entry)) (decode state (now (store .entry))))) (r .answer) (r .fired) (r .skipped) (r .state) (now (store .exit)) ⌝ }
-{
-    let rs = machine::readers(t);
-    let mut st = state;
-    let mut fired: usize = 0;
-    let mut skipped: usize = 0;
-    let mut k: usize = 0;
-    while k < list.len() {
-        let q = list[k];
-        let i = machine::reader_at(rs, q);
-        let o = t.operators[i % 16];
-        let f = machine::fire_found(i < 16, o, q, st, &mut *store);
-        let a = f.answer;
-        let n = one_if_done(a);
-        fired += n;
-        skipped += 1 - n;
-        let next = f.state;
-        st = next;
-        k += 1;
-    }
-    Ran {
-        answer: Answer::Done,
-        fired,
-        skipped,
-        state: st,
+        Answer::Done => calls::take_known(t, q, state, &mut *store),
+        Answer::RefusedAt { number, spot } => calls::no_take(Answer::RefusedAt { number, spot }, state),
+        Answer::Refused { number } => calls::no_take(Answer::Refused { number }, state),
     }
 }
 
@@ -193,9 +75,9 @@ fn run_known(t: Sheet, state: State, store: &mut [i32], list: &[u8]) -> Ran
 pub fn run(t: Sheet, state: State, store: &mut [i32], list: &[u8]) -> Ran
     ensures { λ r. ⌜ RunAnswers (runOf t state (now (store .entry)) (now (list .entry))) (r .answer) (r .fired) (r .skipped) (r .state) (now (store .exit)) ⌝ }
 {
-    let a = machine::stands(t, state, &*store);
+    let a = standing::stands(t, state, &*store);
     match a {
-        Answer::Done => run_known(t, state, &mut *store, list),
+        Answer::Done => calls::run_known(t, state, &mut *store, list),
         Answer::RefusedAt { number, spot } => Ran {
             answer: Answer::RefusedAt { number, spot },
             fired: 0,
@@ -209,36 +91,6 @@ pub fn run(t: Sheet, state: State, store: &mut [i32], list: &[u8]) -> Ran
             state,
         },
     }
-}
-
-// 1 where firing the operator that was found from queue q would be accepted, else 0.
-fn ready_bit(found: bool, o: Operator, q: u8, state: State, store: &[i32]) -> u32
-    requires { ⌜ (found ≡ true → Fit o q state (now store)) ⌝ }
-    ensures { λ r. ⌜ (r ≡ bit (accepts (fireFound found (view o) (decode state (now (store .entry))) q))) × (r ≤ 1) ⌝ }
-{
-    if !found {
-        return 0;
-    }
-    let a = machine::try_operator(o, q, state, store);
-    if a.number == 0 { 1 } else { 0 }
-}
-
-// The ready set, from the highest queue down: each queue's bit is the lowest of twice what came before.
-fn ready_known(t: Sheet, state: State, store: &[i32]) -> u32
-    requires { ⌜ Stands t state (now store) ⌝ }
-    ensures { λ r. ⌜ r ≡ readySet (viewSheet t) (decode state (now (store .entry))) ⌝ }
-{
-    let rs = machine::readers(t);
-    let mut set: u32 = 0;
-    let mut q: u8 = 24;
-    while 0 < q {
-        q -= 1;
-        let i = machine::reader_at(rs, q);
-        let o = t.operators[i % 16];
-        let b = ready_bit(i < 16, o, q, state, store);
-        set = 2 * set + b;
-    }
-    set
 }
 
 fn ready_answer(answer: Answer, set: u32) -> ReadySet
@@ -256,10 +108,10 @@ fn ready_answer(answer: Answer, set: u32) -> ReadySet
 pub fn ready(t: Sheet, state: State, store: &[i32]) -> ReadySet
     ensures { λ r. ⌜ ReadyAnswers (readyOf t state (now (store .entry))) r ⌝ }
 {
-    let a = machine::stands(t, state, store);
+    let a = standing::stands(t, state, store);
     match a {
         Answer::Done => {
-            let set = ready_known(t, state, store);
+            let set = calls::ready_known(t, state, store);
             ready_answer(Answer::Done, set)
         }
         Answer::RefusedAt { number, spot } => ready_answer(Answer::RefusedAt { number, spot }, 0),

@@ -1,0 +1,58 @@
+-- `calls::fire_known` meets its contract: the operator that the table of readers names fires.
+-- Assumes nothing.
+use mathlib.Core.Path.{subst}
+use denote.Ref.{now}
+use borrow.Author.Needs.{needs}
+use Rattle.machine.specs.Machine.{Outcome}
+use Rattle.machine.specs.Numbers.{decode}
+use Rattle.machine.specs.Calls.{saved}
+use Rattle.machine.specs.Working.{Answers}
+use Rattle.calls.proofs.Found.{fire-as-found, fit-as-found}
+use Rattle.calls.proofs.fire_known.Statement.{statement}
+use Rattle.calls.proofs.fire_known.Tie as tie
+
+readers-requires : tie.Need-readers-requires
+readers-requires c κs = search needs
+
+reader-at-requires : tie.Need-reader-at-requires
+reader-at-requires c κs = search needs
+
+mul-o : tie.Need-mul-o
+mul-o c = search needs
+
+element-copy-out-o : tie.Need-element-copy-out-o
+element-copy-out-o c = search needs
+
+fire-found-requires : tie.Need-fire-found-requires
+fire-found-requires c κs =
+    let k = c .before .before in
+    let r = k .before in
+    let d = r .before in
+    let a = d .args in
+    fit-as-found (a .t1) (a .q) (k .reader-at .result) (r .readers .result) (r .readers .ensures) (k .reader-at .ensures) (a .state) (now (a .store)) (d .pre)
+
+same-length : tie.Need-same-length
+same-length c = search needs
+
+returns : tie.Need-returns
+returns c =
+    let f = c .before .fire-found in
+    let k = c .before .before .before .before in
+    let r = k .before in
+    let d = r .before in
+    let a = d .args in
+    subst (λ (o : Outcome). Answers (saved (a .state) (now (a .store)) o) (f .result .answer) (f .result .state) (f .last .1 .1 .1 .1 .0))
+    (fire-as-found (a .t1) (a .q) (k .reader-at .result) (r .readers .result) (r .readers .ensures) (k .reader-at .ensures) (d .pre .sheet)
+    (decode (a .state) (now (a .store)))) (f .ensures)
+
+pub fire-known-spec : {M : Type 1} → statement M
+fire-known-spec =
+    tie.close
+    (tie.spec
+    readers-requires
+    reader-at-requires
+    mul-o
+    element-copy-out-o
+    fire-found-requires
+    same-length
+    returns)

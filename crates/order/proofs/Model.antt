@@ -1,0 +1,51 @@
+-- The product's operators and machines as the theory sees them.
+use Prim.Native.Nat.{ℕ}
+use mathlib.Core.List.{List, [], map}
+use lib.ListN.{getD}
+use lib.IntN.{ℤ, pos}
+use Rattle.step.specs.declared.Func.{Func}
+use Rattle.step.specs.declared.Func.the-variants.{None, Keep, Add, Copy, Count, Stamp}
+use Rattle.step.specs.declared.Step.{Step}
+use Rattle.operator.specs.Op.{Op, line, latest, double, deal, gather, Abstract}
+use Rattle.store.specs.declared.Item.{Item}
+use Rattle.machine.specs.Machine.{Machine}
+use Rattle.theory.proofs.Model.{State}
+use Rattle.theory.proofs.Steps.{keep, add, copy, count, stamp}
+use Rattle.theory.proofs.Equations.{Kind}
+
+abbrev pub TItem : Type 0
+TItem = List ℤ
+
+abbrev pub TStep : Type 0
+TStep = Rattle.theory.proofs.Steps.Step
+
+-- an accepted sheet has no step without a function: what stands for one does not matter
+abbrev pub stepBy : Func → Step → TStep
+stepBy None s = copy (s .p) (s .p)
+stepBy Keep s = keep (s .p) (s .low) (s .high)
+stepBy Add s = add (s .p) (s .low)
+stepBy Copy s = copy (s .p) (s .r)
+stepBy Count s = count (s .variable) (s .p)
+stepBy Stamp s = stamp (s .variable) (s .p)
+
+abbrev pub stepAs : Step → TStep
+stepAs s = stepBy (s .func) s
+
+abbrev pub kindAs : Op → Kind
+kindAs (line p q ss) = Rattle.theory.proofs.Equations.line p q (map stepAs ss)
+kindAs (latest p v f) = Rattle.theory.proofs.Equations.latest p v f
+kindAs (double p q r) = Rattle.theory.proofs.Equations.double p q r
+kindAs (deal c p qs) = Rattle.theory.proofs.Equations.deal c p qs
+kindAs (gather c q ps) = Rattle.theory.proofs.Equations.gather c q ps
+
+abbrev pub kindsAs : Abstract → List Kind
+kindsAs a = map kindAs (a .ops)
+
+abbrev pub itemAs : Item → TItem
+itemAs x = x .f
+
+abbrev pub itemsAs : List Item → List TItem
+itemsAs xs = map itemAs xs
+
+abbrev pub stateAs : Machine → State TItem ℤ
+stateAs m = record { queue = λ (q : ℕ). itemsAs (getD (m .queues) q []); var = λ (k : ℕ). getD (m .vars) k (pos 0) }

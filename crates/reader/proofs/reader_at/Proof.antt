@@ -1,0 +1,32 @@
+-- `reader::reader_at` meets its contract: past the queues no operator reads.
+use mathlib.Core.Path.{_≡_, refl, sym}
+use mathlib.Core.List.{List, [], _∷_}
+use Prim.Native.Nat.{ℕ, zero, suc, _≤_, _<_}
+use native.Mathlib.Omega.{arith}
+use borrow.Author.Needs.{needs}
+use lib.ListN.{length, getD, List·getD-eq-default}
+use Rattle.reader.proofs.reader_at.Statement.{statement}
+use Rattle.reader.proofs.reader_at.Tie as tie
+
+-- below a list's end it does not matter what stands past it
+getD-below : (l : List ℕ) (k d e : ℕ) → k < length l → getD l k d ≡ getD l k e
+getD-below [] k d e h = absurd (omega arith)
+getD-below (x ∷ l) zero d e h = refl
+getD-below (x ∷ l) (suc k) d e h = getD-below l k d e (omega arith)
+
+array-read-result : tie.Need-array-read-result
+array-read-result c = search needs
+
+cast-result : tie.Need-cast-result
+cast-result c = search needs
+
+returns : tie.Need-returns
+returns c = getD-below (c .before .args .t1) (c .before .args .q) 0 16 (omega arith)
+
+returns-2 : tie.Need-returns-2
+returns-2 c =
+    let h : length (c .before .args .t1) ≤ c .before .args .q = omega arith in
+    sym (List·getD-eq-default (c .before .args .t1) 16 h)
+
+pub reader-at-spec : {M : Type 1} → statement M
+reader-at-spec = tie.close (tie.spec array-read-result cast-result returns returns-2)
