@@ -8,9 +8,8 @@ use native.Mathlib.Omega.{arith}
 use lib.ListN.{length, set, getD, drop, length-append}
 use borrow.Author.Tests.{eq-eqb, ne-eqb}
 use Rattle.number.specs.Number.{shortOf}
-use Rattle.lists.specs.Lists.{pad}
 use Rattle.operator.specs.Op.{Op, Abstract, with}
-use Rattle.operator.specs.Memory.{isEmpty, memory, view, noOperator, Ready}
+use Rattle.operator.specs.Memory.{isEmpty, memory, view, Ready}
 use Rattle.operator.specs.declared.Operator.{Operator}
 use Rattle.operator.proofs.ViewLaws.{Small, view-memory, ready-memory}
 use Rattle.judge.specs.Judge.{Known, known, knownOf, judgeBy, after, whole}
@@ -26,6 +25,7 @@ use Rattle.decode.specs.declared.Head.{Head}
 use Rattle.sheet.specs.declared.Sheet.{Sheet}
 use Rattle.sheet.specs.Sheet.{memorySheet}
 use Rattle.sheet.specs.Check.{stopped, kept, nextRecord}
+use Rattle.codec.specs.Fronts.{headed}
 use Rattle.codec.specs.Read.{numberAfter, readFrom, headIn, frontOf}
 use Rattle.codec.proofs.Turns.{read-next, read-stop, read-end, memory-more}
 
@@ -86,10 +86,9 @@ pub front-bad : (s : List ℕ) (m : ℕ) → m ≡ headNumber s → (m ≡ 0 →
 unfolding frontOf
 front-bad s m e ne = rw (e, ne-eqb (headNumber s) 0 (λ z. ne (e ∙ z)))
 
-pub read-starts : {s : List ℕ} {h : Head} (seen : Seen) → HeadTakes s h → h .number ≡ 0 → knownBy seen ≡ knownOf (h .inputs) [] →
-    ReadTo s (h .count) (h .queues) (h .variables)
-    (record { inputs = h .inputs; queues = h .queues; variables = h .variables; count = 0; operators = pad OPERATORS noOperator [] }) seen HEAD_BYTES 0
-read-starts {s} {h} seen t z k =
+pub read-starts : {s : List ℕ} {h : Head} (u : Sheet) (seen : Seen) → HeadTakes s h → h .number ≡ 0 → u ≡ memorySheet (headed h) →
+    knownBy seen ≡ knownOf (h .inputs) [] → ReadTo s (h .count) (h .queues) (h .variables) u seen HEAD_BYTES 0
+read-starts {s} {h} u seen t z b k =
     let good = sym (t .number) ∙ z in
     let r = head-ranges t z in
     let i = t .inputs z in

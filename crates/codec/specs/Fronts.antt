@@ -1,10 +1,12 @@
 -- What the functions of reading and writing answer, against the definitions.
 use mathlib.Core.Path.{_≡_}
-use mathlib.Core.List.{List}
+use mathlib.Core.List.{List, []}
 use Prim.Native.Nat.{ℕ, _+_, _≤_}
 use mathlib.Core.Bool.{Bool, cond, _&&_}
 use lib.Dec.{eqb}
 use lib.ListN.{length}
+use Rattle.operator.specs.Op.{Abstract}
+use Rattle.decode.specs.declared.Head.{Head}
 use Rattle.sheet.specs.declared.Sheet.{Sheet}
 use Rattle.sheet.specs.Answer.{paper, accepted, refusedAt, isAccepted}
 use Rattle.sheet.specs.Sheet.{viewSheet, noSheet}
@@ -14,6 +16,10 @@ use Rattle.codec.specs.declared.ReadSheet.{ReadSheet}
 use Rattle.codec.specs.declared.Written.{Written}
 use Rattle.codec.specs.Read.{frontOf, frontAnswer, frontSheet, frontEnd, frontWhole, readOf}
 use Rattle.codec.specs.Write.{sheetBytes, writeOf}
+
+-- a head with no operator yet
+abbrev pub headed : Head → Abstract
+headed h = record { inputs = h .inputs; queues = h .queues; variables = h .variables; ops = [] }
 
 pub record Fronts (s : List ℕ) (r : Front) : Type 0 where
   pub answer : paper (r .answer) ≡ frontAnswer (frontOf s)

@@ -9,10 +9,10 @@ ghost use lib.Seq.{sets};
 ghost use Rattle.decode.specs.Takes.{HeadTakes};
 ghost use Rattle.sheet.specs.Answer.{accepted};
 ghost use mathlib.Core.Bool.{false};
-ghost use Rattle.sheet.specs.Sheet.{viewSheet, noSheet};
+ghost use Rattle.sheet.specs.Sheet.{viewSheet, memorySheet, noSheet};
 ghost use Rattle.sheet.specs.Check.{checkOf};
 ghost use Rattle.codec.specs.Write.{sheetBytes};
-ghost use Rattle.codec.specs.Fronts.{Fronts, Ends, Reads, Writes, Agains};
+ghost use Rattle.codec.specs.Fronts.{headed, Fronts, Ends, Reads, Writes, Agains};
 
 // The head and N operators that were read, where they end, and whether every queue is defined.
 pub struct Front {
@@ -44,6 +44,20 @@ fn stopped(number: u8, spot: u8) -> Front
     }
 }
 
+// A head's sheet with no operator yet.
+fn bare(h: Head) -> Sheet
+    ensures { λ r. ⌜ r ≡ memorySheet (headed h) ⌝ }
+{
+    let operators = [decode::NO_OPERATOR; 16];
+    Sheet {
+        inputs: h.inputs,
+        queues: h.queues,
+        variables: h.variables,
+        count: 0,
+        operators,
+    }
+}
+
 // The operators after a good head.
 fn read_operators(s: &[u8], h: Head) -> Front
     requires { ⌜ HeadTakes (now s) h × (h .number ≡ 0) ⌝ }
@@ -52,14 +66,7 @@ fn read_operators(s: &[u8], h: Head) -> Front
     let n = h.count as usize;
     let queues = h.queues;
     let variables = h.variables;
-    let operators = [decode::NO_OPERATOR; 16];
-    let mut t = Sheet {
-        inputs: h.inputs,
-        queues,
-        variables,
-        count: 0,
-        operators,
-    };
+    let mut t = bare(h);
     let mut seen = judge::inputs_seen(h.inputs);
     let mut at = encode::HEAD_BYTES;
     let mut i = 0;

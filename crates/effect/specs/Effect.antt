@@ -19,6 +19,9 @@ pub record Result : Type 0 where
   pub item : Item
   pub vars : List ℤ
 
+abbrev pub sent : List ℕ → Item → List ℤ → Result
+sent puts x vs = record { puts = puts; item = x; vars = vs }
+
 -- a cursor: a variable that holds 0 to ways - 1; it moves on by one, modulo the ways
 abbrev pub natOf : ℤ → ℕ
 natOf (pos n) = n

@@ -13,7 +13,7 @@ ghost use Rattle.step.specs.Step.{FIELDS};
 ghost use Rattle.operator.specs.Memory.{view, stepsIn};
 ghost use Rattle.effect.specs.Flow.{fieldOf, varOf, withField, withVar, dropped, addOf, countOf, stepped, lined};
 ghost use Rattle.number.specs.Number.{between};
-ghost use Rattle.effect.specs.Effect.{cursorAt, movedOn, lineResult, effect, waits, inWays, cursorGood, resultOf};
+ghost use Rattle.effect.specs.Effect.{cursorAt, movedOn, lineResult, effect, waits, inWays, cursorGood, putsOf, resultOf, sent};
 ghost use Rattle.effect.specs.Able.{VARIABLES, StepAble, Able};
 
 pub const VARIABLES: usize = 16;
@@ -236,6 +236,12 @@ fn latest(o: Operator, x: Item, vars: [i32; VARIABLES]) -> [i32; VARIABLES]
     u
 }
 
+fn to(puts: Puts, item: Item, vars: [i32; VARIABLES]) -> Effect
+    ensures { λ r. ⌜ resultOf r ≡ sent (putsOf puts) item vars ⌝ }
+{
+    Effect { puts, item, vars }
+}
+
 // What an operator does with the item that it takes.
 pub fn act(o: Operator, x: Item, vars: [i32; VARIABLES]) -> Effect
     requires { ⌜ Able o × (cursorGood (view o) vars ≡ true) ⌝ }
@@ -243,11 +249,7 @@ pub fn act(o: Operator, x: Item, vars: [i32; VARIABLES]) -> Effect
 {
     let k = o.kind;
     match k {
-        Kind::Empty => Effect {
-            puts: Puts::Nowhere,
-            item: x,
-            vars,
-        },
+        Kind::Empty => to(Puts::Nowhere, x, vars),
         Kind::Line => {
             let y = run_line(
                 o,
@@ -261,33 +263,17 @@ pub fn act(o: Operator, x: Item, vars: [i32; VARIABLES]) -> Effect
         }
         Kind::Latest => {
             let u = latest(o, x, vars);
-            Effect {
-                puts: Puts::Nowhere,
-                item: x,
-                vars: u,
-            }
+            to(Puts::Nowhere, x, u)
         }
-        Kind::Double => Effect {
-            puts: Puts::Two(o.outs[0], o.outs[1]),
-            item: x,
-            vars,
-        },
+        Kind::Double => to(Puts::Two(o.outs[0], o.outs[1]), x, vars),
         Kind::Deal => {
             let c = cursor(o.variable, vars, o.count);
             let u = move_on(o.variable, vars, o.count);
-            Effect {
-                puts: Puts::One(o.outs[c]),
-                item: x,
-                vars: u,
-            }
+            to(Puts::One(o.outs[c]), x, u)
         }
         Kind::Gather => {
             let u = move_on(o.variable, vars, o.count);
-            Effect {
-                puts: Puts::One(o.outs[0]),
-                item: x,
-                vars: u,
-            }
+            to(Puts::One(o.outs[0]), x, u)
         }
     }
 }

@@ -30,13 +30,17 @@ ready c =
 cast-n : tie.Need-cast-n Inv-loop μ-loop
 cast-n c = search needs
 
+bare-requires : tie.Need-bare-requires Inv-loop μ-loop
+bare-requires c κs = tt
+
 inputs-seen-requires : tie.Need-inputs-seen-requires Inv-loop μ-loop
-inputs-seen-requires c κs = omega (arith, ranges (c .before .before))
+inputs-seen-requires c κs = omega (arith, ranges (c .before .before .before))
 
 loop-holds : tie.Need-loop-holds Inv-loop μ-loop
 loop-holds c =
-    let p = c .before .before .before .pre in
-    read-starts (c .inputs-seen .result) (p .0) (p .1) (c .inputs-seen .ensures)
+    let p = c .before .before .before .before .pre in
+    let b = c .before .bare in
+    read-starts (b .result) (c .inputs-seen .result) (p .0) (p .1) (b .ensures) (c .inputs-seen .ensures)
 
 add-spot : tie.Need-add-spot Inv-loop μ-loop
 add-spot c = omega arith
@@ -117,6 +121,7 @@ read-operators-spec =
     Inv-loop
     μ-loop
     cast-n
+    bare-requires
     inputs-seen-requires
     loop-holds
     add-spot

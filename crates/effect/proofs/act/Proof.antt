@@ -13,6 +13,9 @@ use Rattle.effect.proofs.act.Tie as tie
 enum-told : tie.Need-enum-told
 enum-told c = search needs
 
+to-requires : tie.Need-to-requires
+to-requires c κs = search needs
+
 enum-told-2 : tie.Need-enum-told-2
 enum-told-2 c = search needs
 
@@ -31,6 +34,9 @@ enum-told-3 c = search needs
 latest-requires : tie.Need-latest-requires
 latest-requires c κs = search needs
 
+to-requires-2 : tie.Need-to-requires-2
+to-requires-2 c κs = search needs
+
 enum-told-4 : tie.Need-enum-told-4
 enum-told-4 c = search needs
 
@@ -39,6 +45,9 @@ element-copy-out-t22 c = search needs
 
 element-copy-out-t25 : tie.Need-element-copy-out-t25
 element-copy-out-t25 c = search needs
+
+to-requires-3 : tie.Need-to-requires-3
+to-requires-3 c κs = search needs
 
 enum-told-5 : tie.Need-enum-told-5
 enum-told-5 c = search needs
@@ -56,6 +65,9 @@ move-on-requires c κs =
 element-copy-out-t27 : tie.Need-element-copy-out-t27
 element-copy-out-t27 c = search needs
 
+to-requires-4 : tie.Need-to-requires-4
+to-requires-4 c κs = search needs
+
 enum-told-6 : tie.Need-enum-told-6
 enum-told-6 c = search needs
 
@@ -67,8 +79,11 @@ move-on-requires-2 c κs =
 element-copy-out-t32 : tie.Need-element-copy-out-t32
 element-copy-out-t32 c = search needs
 
+to-requires-5 : tie.Need-to-requires-5
+to-requires-5 c κs = search needs
+
 returns : tie.Need-returns
-returns c = let s = c .before .before in not-empty (s .args .t1) (s .pre .0 .ready) (search needs)
+returns c = let s = c .before .before .before in not-empty (s .args .t1) (s .pre .0 .ready) (search needs)
 
 returns-2 : tie.Need-returns-2
 unfolding effect
@@ -79,47 +94,55 @@ returns-2 c =
 
 returns-3 : tie.Need-returns-3
 returns-3 c =
-    let a = c .before .before .before .args in
-    latest-effect (a .t1) (a .vars) (search needs) (a .x) (c .latest .result) (c .latest .ensures)
+    let a = c .before .before .before .before .args in
+    let u = c .before .latest in
+    c .to2 .ensures ∙ latest-effect (a .t1) (a .vars) (search needs) (a .x) (u .result) (u .ensures)
 
 returns-4 : tie.Need-returns-4
 unfolding effect
 returns-4 c =
-    let a = c .before .before .before .before .args in
-    by-kind (λ (y : Op). effect y (a .x) (a .vars)) (a .t1) Double (search needs)
+    let a = c .before .before .before .before .before .args in
+    c .to3 .ensures ∙ by-kind (λ (y : Op). effect y (a .x) (a .vars)) (a .t1) Double (search needs)
 
 returns-5 : tie.Need-returns-5
 returns-5 c =
-    let a = c .before .before .before .before .before .args in
-    let n = c .before .before .cursor in
-    deal-effect (a .t1) (a .vars) (search needs) (a .x) (n .result) (c .before .move-on .result) (n .ensures .0) (n .ensures .1) (c .before .move-on .ensures)
+    let a = c .before .before .before .before .before .before .args in
+    let n = c .before .before .before .cursor in
+    let u = c .before .before .move-on in
+    c .to4 .ensures ∙ deal-effect (a .t1) (a .vars) (search needs) (a .x) (n .result) (u .result) (n .ensures .0) (n .ensures .1) (u .ensures)
 
 returns-6 : tie.Need-returns-6
 returns-6 c =
-    let a = c .before .before .before .before .args in
-    gather-effect (a .t1) (a .vars) (search needs) (a .x) (c .before .move-on2 .result) (c .before .move-on2 .ensures)
+    let a = c .before .before .before .before .before .args in
+    let u = c .before .before .move-on2 in
+    c .to5 .ensures ∙ gather-effect (a .t1) (a .vars) (search needs) (a .x) (u .result) (u .ensures)
 
 pub act-spec : {M : Type 1} → statement M
 act-spec =
     tie.close
     (tie.spec
     enum-told
+    to-requires
     enum-told-2
     run-line-requires
     element-copy-out-line-effect
     line-effect-requires
     enum-told-3
     latest-requires
+    to-requires-2
     enum-told-4
     element-copy-out-t22
     element-copy-out-t25
+    to-requires-3
     enum-told-5
     cursor-requires
     move-on-requires
     element-copy-out-t27
+    to-requires-4
     enum-told-6
     move-on-requires-2
     element-copy-out-t32
+    to-requires-5
     returns
     returns-2
     returns-3
