@@ -81,3 +81,17 @@ pub use Rattle.machine.proofs.ReadyLaws.{ready-count}
 pub use Rattle.machine.proofs.ReadyLaws.{ready-lowest}
 -- one outcome: fresh, feed and fire; take; run; ready
 pub use Rattle.machine.proofs.OneOutcome.{fired-one, taken-one, ran-one, ready-one}
+-- the rewriter: an accepted answer is an accepted, calm sheet again, and the one that the paper sets out
+pub use Rattle.order.proofs.Again.{fuse-again, split-again, reorder-again}
+-- one outcome: two answers that meet the contract of fuse, split or reorder are equal
+pub use Rattle.rewriter.proofs.OneOutcome.{fuse-one, split-one, reorder-one}
+-- demand 3: neither the order of firings nor a chain of rewritings changes what reaches the outputs and the variables
+pub use Rattle.order.proofs.DemandThree.{demand-3}
+-- from one good state of a calm sheet any two lists that end at rest fire equally often and leave the same whole state
+pub use Rattle.order.proofs.OneRest.{one-rest-of-calm}
+-- from any good state of an accepted sheet some list ends at rest
+pub use Rattle.order.proofs.Reaches.{reaches-rest}
+-- demand 3 speaks of sheet A, and of A reordered and then split, each fired in an order of its own
+pub use Rattle.order.proofs.Instance.{instance}
+-- what goes wrong without the conditions: the paper's four slips, and a sheet that is not calm
+pub use Rattle.order.proofs.Slips.{slips-show, rewritings-refused, accepted-not-calm, gather-waits}

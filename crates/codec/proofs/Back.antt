@@ -19,11 +19,12 @@ use Rattle.sheet.specs.Answer.{Paper, accepted, refusedAt, isAccepted}
 use Rattle.sheet.specs.Sheet.{opAt, viewTo, viewSheet, memorySheet, HeldSheet}
 use Rattle.sheet.specs.Check.{Kept, kept, checkOf}
 use Rattle.sheet.proofs.Accepted.{Accepted}
+use Rattle.sheet.proofs.Placed.{view-back}
 use Rattle.codec.specs.Read.{readFrom, headIn, Reading, readEnd, readOf}
 use Rattle.codec.specs.Write.{sheetBytes, writing, writeOf}
 use Rattle.codec.proofs.Follow.{withAll}
 use Rattle.codec.proofs.Chain.{read-chain}
-use Rattle.codec.proofs.InMemory.{view-back, accepted-memory, follow-view, fits-view, memory-back}
+use Rattle.codec.proofs.InMemory.{accepted-memory, follow-view, fits-view, memory-back}
 use Rattle.codec.proofs.Answers.{read-good, read-ends, reading, Accepts, accepts-of-answer}
 
 -- the bytes of an accepted sheet are read as that sheet

@@ -16,9 +16,10 @@ use Rattle.format.proofs.Written.{taken-of-bytes}
 use Rattle.format.proofs.Read.{number-of-bad, small-of-taken, rest-below, bytes-of-taken}
 use Rattle.sheet.specs.Check.{stopped, kept, nextRecord}
 use Rattle.sheet.proofs.Turns.{judged-most}
+use Rattle.sheet.proofs.Placed.{nth}
 use Rattle.codec.specs.Read.{numberAfter, readFrom}
 use Rattle.codec.proofs.Turns.{read-more, read-refuse, read-none}
-use Rattle.codec.proofs.Follow.{withAll, with-none, with-more, nth, Follow, follow-none, follow-first, follow-rest, follow-more, judged-known}
+use Rattle.codec.proofs.Follow.{withAll, with-none, with-more, Follow, follow-none, follow-first, follow-rest, follow-more, judged-known}
 
 -- a record that is taken and kept, and one that is refused
 read-took : (n : ℕ) (a : Abstract) (s : List ℕ) (o : Op) (rest : List ℕ) → taken s ≡ took o rest → judge a o ≡ 0 →

@@ -5,7 +5,7 @@ use mathlib.Core.Bool.{true}
 use mathlib.Core.List.{List, [], _∷_, _++_, append-nil, append-assoc}
 use Prim.Native.Nat.{ℕ, zero, suc, _<_}
 use native.Mathlib.Omega.{arith}
-use lib.ListN.{length, getD, take}
+use lib.ListN.{length, take}
 use Rattle.lists.proofs.Tests.{both, all-implies}
 use Rattle.step.specs.Step.{knownFunc, stepPlaces}
 use Rattle.step.specs.declared.Step.{Step}
@@ -14,6 +14,7 @@ use Rattle.operator.proofs.ViewLaws.{Small}
 use Rattle.judge.specs.Judge.{known, seven, judge}
 use Rattle.judge.proofs.JudgedLaws.{judged-seven}
 use Rattle.format.proofs.Sizes.{knownOp}
+use Rattle.sheet.proofs.Placed.{nth}
 
 -- more operators after those kept
 abbrev pub withAll : Abstract → List Op → Abstract
@@ -26,10 +27,6 @@ with-none a =
 pub with-more : (a : Abstract) (o : Op) (os : List Op) → withAll (with a o) os ≡ withAll a (o ∷ os)
 with-more a o os =
     ap (λ (l : List Op). record { inputs = a .inputs; queues = a .queues; variables = a .variables; ops = l }) (append-assoc (a .ops) (o ∷ []) os)
-
--- the operator at a place of the list
-abbrev pub nth : List Op → ℕ → Op
-nth os k = getD os k (double 0 0 0)
 
 -- each is judged after those before it, and is of a size that a sheet can hold
 pub record Follow (a : Abstract) (os : List Op) : Type 0 where

@@ -6,19 +6,18 @@ use mathlib.Core.Bool.{true}
 use mathlib.Core.List.{List, map}
 use Prim.Native.Nat.{ℕ, _<_, _≤_}
 use native.Mathlib.Omega.{arith}
-use lib.ListN.{length, getD, take, length-map, List·getD-eq-default, List·getD-map}
-use lib.Seq.{ext-getD, take-length}
-use Rattle.lists.specs.Lists.{build, pad}
+use lib.ListN.{length, getD, take}
+use lib.Seq.{ext-getD}
+use Rattle.lists.specs.Lists.{build}
 use Rattle.lists.proofs.Build.{order, build-length, build-getD, build-ext, take-build}
-use Rattle.lists.proofs.Pad.{pad-length, pad-getD}
+use Rattle.lists.proofs.Pad.{pad-length}
 use Rattle.step.specs.Step.{noStep}
 use Rattle.operator.specs.Op.{Op, double, Abstract}
-use Rattle.operator.specs.Memory.{view, viewAs, memory, memoryNumber, vacant, noOperator, Held}
+use Rattle.operator.specs.Memory.{view, viewAs, memory, noOperator, Held}
 use Rattle.operator.specs.declared.Kind.{Kind}
 use Rattle.operator.specs.declared.Kind.the-variants.{Empty, Line, Latest, Double, Deal, Gather}
 use Rattle.operator.specs.declared.Operator.{Operator}
-use Rattle.operator.proofs.ViewLaws.{Small, view-memory, number-memory, small-view, memory-view, vacant-is, vacant-no-operator}
-use Rattle.operator.proofs.Held.{getD-any}
+use Rattle.operator.proofs.ViewLaws.{small-view, memory-view, vacant-is}
 use Rattle.judge.specs.Judge.{known, judge, whole}
 use Rattle.format.specs.Head.{OPERATORS, headGood}
 use Rattle.format.proofs.Sizes.{FitsOp}
@@ -27,61 +26,14 @@ use Rattle.format.proofs.Read.{steps-fit}
 use Rattle.sheet.specs.declared.Sheet.{Sheet}
 use Rattle.sheet.specs.Sheet.{missing, opAt, viewTo, viewSheet, memorySheet, HeldSheet}
 use Rattle.sheet.proofs.Accepted.{Accepted}
-use Rattle.codec.proofs.Follow.{withAll, nth, Follow}
-
--- the first operators of a sheet
-abbrev pub cutTo : Abstract → ℕ → Abstract
-cutTo b i = record { inputs = b .inputs; queues = b .queues; variables = b .variables; ops = take i (b .ops) }
-
-module _ (b : Abstract) (room : length (b .ops) ≤ OPERATORS) where
-  -- the places in memory
-  place : (i : ℕ) → i < OPERATORS → opAt (memorySheet b) i ≡ getD (map memory (b .ops)) i noOperator
-  place i l =
-      let n = pad-length OPERATORS noOperator (map memory (b .ops)) in
-      getD-any (pad OPERATORS noOperator (map memory (b .ops))) i missing noOperator (omega arith)
-      ∙ pad-getD OPERATORS noOperator (map memory (b .ops)) i l
-
-  place-used : (i : ℕ) → i < length (b .ops) → opAt (memorySheet b) i ≡ memory (nth (b .ops) i)
-  place-used i l =
-      let n = length-map (b .ops) memory in
-      place i (omega arith) ∙ getD-any (map memory (b .ops)) i noOperator (memory (double 0 0 0)) (omega arith)
-      ∙ List·getD-map memory (b .ops) i (double 0 0 0)
-
-  place-past : (i : ℕ) → length (b .ops) ≤ i → i < OPERATORS → opAt (memorySheet b) i ≡ noOperator
-  place-past i l h =
-      let n = length-map (b .ops) memory in
-      place i h ∙ List·getD-eq-default (map memory (b .ops)) noOperator {n = i} (omega arith)
-
-  module _ (small : (k : ℕ) → k < length (b .ops) → Small (nth (b .ops) k)) where
-    view-place : (i : ℕ) → i < length (b .ops) → view (opAt (memorySheet b) i) ≡ nth (b .ops) i
-    view-place i l = ap view (place-used i l) ∙ view-memory (nth (b .ops) i) (small i l)
-
-    view-first : (i : ℕ) → i ≤ length (b .ops) → viewTo (memorySheet b) i ≡ cutTo b i
-    view-first i l =
-        ap (λ (os : List Op). record { inputs = b .inputs; queues = b .queues; variables = b .variables; ops = os })
-        (build-ext i (λ (k : ℕ). view (opAt (memorySheet b) k)) (nth (b .ops)) (λ k h. view-place k (omega arith)) ∙ take-build i (b .ops) (double 0 0 0) l)
-
-    -- the sheet in memory stands for the list
-    pub view-back : viewSheet (memorySheet b) ≡ b
-    view-back =
-        view-first (length (b .ops)) (omega arith)
-        ∙ ap (λ (os : List Op). record { inputs = b .inputs; queues = b .queues; variables = b .variables; ops = os }) (take-length (b .ops))
+use Rattle.sheet.proofs.Placed.{nth, cutTo, place-used, place-past, accepted-placed}
+use Rattle.codec.proofs.Follow.{withAll, Follow}
 
 -- operators that follow each other after a good head, and that define every queue, make an accepted sheet
 pub accepted-memory : (b : Abstract) → headGood (b .inputs) (b .queues) (b .variables) (length (b .ops)) ≡ true → Follow (cutTo b 0) (b .ops) →
     whole (b .queues) (known b) ≡ true → Accepted (memorySheet b)
 accepted-memory b good f w =
-    let room = ranges-of-good (b .inputs) (b .queues) (b .variables) (length (b .ops)) good .count in
-    record {
-      head = good;
-      shaped = λ i l. ap memoryNumber (place-used b room i l) ∙ number-memory (nth (b .ops) i) (f .small i l);
-      judged =
-          λ i l.
-          ap (λ (a : Abstract). judge a (view (opAt (memorySheet b) i))) (view-first b room (f .small) i (omega arith))
-          ∙ ap (judge (cutTo b i)) (view-place b room (f .small) i l) ∙ f .judged i l;
-      vacant = λ i l h. ap vacant (place-past b room i l h) ∙ vacant-no-operator;
-      defined = ap (λ (a : Abstract). whole (b .queues) (known a)) (view-back b room (f .small)) ∙ w;
-    }
+    accepted-placed b (ranges-of-good (b .inputs) (b .queues) (b .variables) (length (b .ops)) good .count) (f .small) good (f .judged) w
 
 -- an operator that the program holds has numbers that fit
 fits-as : (k : Kind) (o : Operator) → Held o → FitsOp (viewAs k o)

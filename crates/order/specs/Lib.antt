@@ -1,2 +1,5 @@
 pub mod Order
 pub mod Demand
+pub mod Firings
+pub mod Instance
+pub mod Slips

@@ -26,6 +26,10 @@ answering (rewritten a) = record { answer = accepted; sheet = memorySheet a }
 abbrev pub ifCalm : Sheet → Rewritten → Rewriting
 ifCalm t r = cond (isAccepted (checkOf t)) (cond (isCalm (viewSheet t)) (answering r) (refusing (refused 13))) (refusing (checkOf t))
 
+-- the same two refusals alone: the sheet stands, or which one
+abbrev pub standing : Sheet → Paper
+standing t = cond (isAccepted (checkOf t)) (cond (isCalm (viewSheet t)) accepted (refused 13)) (checkOf t)
+
 unfoldable pub fuseOf : Sheet → ℕ → Rewriting
 fuseOf t i = ifCalm t (fuse (viewSheet t) i)
 

@@ -1,2 +1,4 @@
 pub mod Rewrite
 pub mod Calls
+pub mod Working
+pub mod Pieces

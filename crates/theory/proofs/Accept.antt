@@ -1,23 +1,21 @@
 -- Acceptance by counting: how often each queue is defined and read and each variable held; what a rewriting does to the counts is a sum.
 -- Assumes nothing.
-use mathlib.Core.Path.{_≡_, refl, ap, sym, _∙_, subst, subst₂, fun-ext}
-use mathlib.Core.Bool.{Bool, true, false, cond, _&&_, _||_}
-use mathlib.Core.Option.{Option, some, none}
-use mathlib.Core.Logic.{_⊎_, inl, inr, _≢_}
-use mathlib.Core.List.{List, [], _∷_, _++_, map}
-use Prim.Native.Nat.{ℕ, zero, suc, pred, _+_, _*_, _-_, _≤_, _<_}
+use mathlib.Core.Path.{_≡_, refl}
+use mathlib.Core.Bool.{Bool, true, false, _||_}
+use mathlib.Core.Option.{none}
+use mathlib.Core.List.{List, [], _∷_, _++_}
+use Prim.Native.Nat.{ℕ, zero, suc, _+_, _≤_, _<_}
 use native.Mathlib.Omega.{arith}
-use lib.ListN.{length, getD, length-map}
+use lib.ListN.{length, getD}
 use lib.Dec.{eqb, ltb}
-use lib.IntN.{ℤ, pos}
-use borrow.Author.Tests.{eqb-true, eqb-false, ltb-true, ltb-false}
+use borrow.Author.Tests.{ltb-true, ltb-false}
 use Rattle.theory.proofs.Trace.{eqb-same}
-use Rattle.theory.proofs.Steps.{Item, Step, names, lineOp}
+use Rattle.theory.proofs.Steps.{lineOp}
 use Rattle.theory.proofs.Deal.{oneOf, Once, dealOp, gatherOp}
-use Rattle.theory.proofs.Equations.{Kind, line, latest, double, deal, gather, Queues, Ways, ren, names-append}
+use Rattle.theory.proofs.Equations.{Kind, line, latest, double, deal, gather, Ways}
 use Rattle.theory.proofs.Denote.{denote, takesFrom, Good, latestOp, doubleOp}
-use Rattle.theory.proofs.Sheets.{Accepted, gives, holds, blank, find, find-none, find-some}
-use Rattle.theory.proofs.Rewrites.{All, none-left, also, first, rest, all-at, all-join, all-left, all-right, all-map, Keeps, down, up, up-ne, eqb-down, T-ltb, F-ltb, F-eqb}
+use Rattle.theory.proofs.Sheets.{Accepted, gives, holds, blank, find, find-none}
+use Rattle.theory.proofs.Rewrites.{All, all-at}
 
 abbrev pub bit : Bool → ℕ
 bit true = 1
@@ -48,7 +46,8 @@ module _ {A : Type 0} (f : A → ℕ) where
   tot-two (x ∷ xs) (suc i) (suc j) d l h = omega (arith, tot-two xs i j d (omega arith) (omega arith))
 
   -- at most one in all: at one place only
-  pub tot-once : (xs : List A) (d : A) → tot xs ≤ 1 → (i j : ℕ) → i < length xs → j < length xs → 1 ≤ f (getD xs i d) → 1 ≤ f (getD xs j d) → i ≡ j
+  pub tot-once : (xs : List A) (d : A) → tot xs ≤ 1 → (i j : ℕ) → i < length xs → j < length xs → 1 ≤ f (getD xs i d)
+      → 1 ≤ f (getD xs j d) → i ≡ j
   tot-once xs d t i j hi hj a b = go (ltb i j) refl (ltb j i) refl
     where
       go : (x : Bool) → ltb i j ≡ x → (y : Bool) → ltb j i ≡ y → i ≡ j
@@ -167,7 +166,8 @@ not-gives (gather c o is) q h = rw h
 
 once-of : (l : List ℕ) → ((q : ℕ) → occ q l ≤ 1) → Once l
 once-of l h i j hi hj e = tot-once (λ r. bit (eqb (getD l i 0) r)) l 0 (h (getD l i 0)) i j hi hj
-    (bit-one (eqb (getD l i 0) (getD l i 0)) (eqb-same (getD l i 0) (getD l i 0) refl)) (bit-one (eqb (getD l i 0) (getD l j 0)) (eqb-same (getD l i 0) (getD l j 0) e))
+    (bit-one (eqb (getD l i 0) (getD l i 0)) (eqb-same (getD l i 0) (getD l i 0) refl))
+    (bit-one (eqb (getD l i 0) (getD l j 0)) (eqb-same (getD l i 0) (getD l j 0) e))
 
 good-of : (κ : Kind) → Ways κ → ((q : ℕ) → givesN q κ ≤ 1) → ((q : ℕ) → readsN q κ ≤ 1) → Good κ
 unfolding Ways Good givesN readsN
@@ -177,7 +177,8 @@ good-of (double p o o′) w g r = tt
 good-of (deal c p os) w g r = (w, once-of os g)
 good-of (gather c o is) w g r = (w, once-of is r)
 
-ord-at : {ops : List Kind} → Ord ops → (i j q : ℕ) → i ≤ j → j < length ops → 1 ≤ readsN q (getD ops i blank) → givesN q (getD ops j blank) ≡ 0
+ord-at : {ops : List Kind} → Ord ops → (i j q : ℕ) → i ≤ j → j < length ops → 1 ≤ readsN q (getD ops i blank)
+    → givesN q (getD ops j blank) ≡ 0
 unfolding tot
 ord-at ord-end i j q l h r = absurd (omega arith)
 ord-at (ord-on {κs} f o) zero zero q l h r = omega (arith, f q r)
@@ -203,18 +204,25 @@ module _ (I Q : ℕ) (ops : List Kind) (a : Acc I Q ops) where
 
   pub accepted : Accepted I Q ops
   accepted = record {
-    def-once = λ i j q hi hj x y. tot-once (givesN q) ops blank (defs-le q) i j hi hj (gives-one (getD ops i blank) q x) (gives-one (getD ops j blank) q y);
-    read-once = λ i j q hi hj x y. tot-once (readsN q) ops blank (a .reads q) i j hi hj (reads-one (getD ops i blank) q x) (reads-one (getD ops j blank) q y);
-    apart = λ i j k hi hj x y. tot-once (holdsN k) ops blank (a .calm k) i j hi hj (bit-one (holds (getD ops i blank) k) x) (bit-one (holds (getD ops j blank) k) y);
+    def-once = λ i j q hi hj x y.
+        tot-once (givesN q) ops blank (defs-le q) i j hi hj (gives-one (getD ops i blank) q x) (gives-one (getD ops j blank) q y);
+    read-once = λ i j q hi hj x y.
+        tot-once (readsN q) ops blank (a .reads q) i j hi hj (reads-one (getD ops i blank) q x) (reads-one (getD ops j blank) q y);
+    apart = λ i j k hi hj x y.
+        tot-once (holdsN k) ops blank (a .calm k) i j hi hj (bit-one (holds (getD ops i blank) k) x)
+        (bit-one (holds (getD ops j blank) k) y);
     order = λ i j q hi hj x y. order i j q hj (reads-one (getD ops i blank) q x) (gives-one (getD ops j blank) q y) (ltb j i) refl;
-    good = λ i hi. good-of (getD ops i blank) (all-at (a .ways) i blank hi) (λ q. omega (arith, tot-at (givesN q) ops i blank hi, defs-le q)) (λ q. omega (arith, tot-at (readsN q) ops i blank hi, a .reads q));
+    good = λ i hi.
+        good-of (getD ops i blank) (all-at (a .ways) i blank hi) (λ q. omega (arith, tot-at (givesN q) ops i blank hi, defs-le q))
+        (λ q. omega (arith, tot-at (readsN q) ops i blank hi, a .reads q));
     low = λ i q hi x. low i q hi (reads-one (getD ops i blank) q x) (ltb q Q) refl;
     fit = a .fit;
     defined = λ q h e. defined q h e (ltb q I) refl;
     inputs = λ i q hi x. not-input q (omega (arith, tot-at (givesN q) ops i blank hi, gives-one (getD ops i blank) q x)) .0;
   }
     where
-      order : (i j q : ℕ) → j < length ops → 1 ≤ readsN q (getD ops i blank) → 1 ≤ givesN q (getD ops j blank) → (b : Bool) → ltb j i ≡ b → j < i
+      order : (i j q : ℕ) → j < length ops → 1 ≤ readsN q (getD ops i blank) → 1 ≤ givesN q (getD ops j blank) → (b : Bool)
+          → ltb j i ≡ b → j < i
       order i j q hj x y true e = ltb-true j i e
       order i j q hj x y false e = absurd (omega (arith, ord-at (a .ord) i j q (ltb-false j i e) hj x))
 

@@ -1,10 +1,10 @@
 -- Worst counts: what each kind puts, counted by what it takes.
 -- Assumes nothing.
-use mathlib.Core.Path.{_≡_, refl, ap, sym, _∙_, subst, fun-ext}
-use mathlib.Core.Bool.{Bool, true, false, cond, _&&_, _||_}
+use mathlib.Core.Path.{_≡_, refl, ap, sym, _∙_, subst}
+use mathlib.Core.Bool.{Bool, true, false, cond, _||_}
 use mathlib.Core.Option.{Option, some, none}
-use mathlib.Core.Logic.{_⊎_, inl, inr, _≢_}
-use mathlib.Core.List.{List, [], _∷_, _++_}
+use mathlib.Core.Logic.{inl}
+use mathlib.Core.List.{List, [], _∷_}
 use Prim.Native.Nat.{ℕ, zero, suc, _+_, _*_, _-_, _/_, _≤_, _<_}
 use native.Mathlib.Omega.{arith}
 use native.Mathlib.Nat.{le-div-iff-mul-le, mul-comm, le-trans, div-mul-le-self}
@@ -12,11 +12,11 @@ use lib.ListN.{length, getD}
 use lib.Dec.{eqb}
 use lib.IntN.{ℤ, pos}
 use borrow.Author.Tests.{eqb-true, eqb-false}
-use Rattle.theory.proofs.Model.{Op}
 use Rattle.theory.proofs.Trace.{eqb-same, mark, cons?, tput, ttake}
 use Rattle.theory.proofs.Steps.{Item, Step, runs, lout, lineOp, line-put, line-take}
 use Rattle.theory.proofs.Kahn.{sum, sum-zero, lt-of}
-use Rattle.theory.proofs.Deal.{dealt, onward, onward-lt, dealt-le, oneOf, one-of, Once, dealOp, gatherOp, deal-put, deal-take, gather-put, gather-take}
+use Rattle.theory.proofs.Deal.{dealt, onward, onward-lt, dealt-le, oneOf, one-of, Once, dealOp, gatherOp, deal-put, deal-take}
+use Rattle.theory.proofs.Deal.{gather-put, gather-take}
 use Rattle.theory.proofs.Equations.{Kind, line, latest, double, deal, gather, nought}
 use Rattle.theory.proofs.Denote.{denote, takesFrom, Good, latestOp, doubleOp, double-take, double-put, way-of}
 
@@ -54,7 +54,8 @@ sum-dealt : {A : Type 0} (k c : ℕ) (xs : List A) → c < k → sum k (λ j. le
 unfolding dealt
 sum-dealt k c [] h = sym (sum-zero k)
 sum-dealt k c (x ∷ xs) h =
-    sum-one k c (λ j. length (dealt k j (onward k c) xs)) (λ j. length (cons? (mark (eqb j c) x) (dealt k j (onward k c) xs))) h (λ j e. rw e) (rw (eqb-same c c refl))
+    sum-one k c (λ j. length (dealt k j (onward k c) xs)) (λ j. length (cons? (mark (eqb j c) x) (dealt k j (onward k c) xs))) h
+    (λ j e. rw e) (rw (eqb-same c c refl))
     ∙ ap suc (sum-dealt k (onward k c) xs (onward-lt k c h))
 
 lout-le : (ss : List Step) (v : ℕ → ℤ) (xs : List Item) → length (lout ss v xs) ≤ length xs
@@ -62,7 +63,8 @@ unfolding lout
 lout-le ss v [] = omega arith
 lout-le ss v (x ∷ xs) = go (runs ss x v .0) (lout-le ss (runs ss x v .1) xs)
   where
-    go : (o : Option Item) → length (lout ss (runs ss x v .1) xs) ≤ length xs → length (cons? o (lout ss (runs ss x v .1) xs)) ≤ suc (length xs)
+    go : (o : Option Item) → length (lout ss (runs ss x v .1) xs) ≤ length xs
+        → length (cons? o (lout ss (runs ss x v .1) xs)) ≤ suc (length xs)
     go none h = omega arith
     go (some y) h = omega arith
 
@@ -76,17 +78,20 @@ way-le : (k j n L : ℕ) → 0 < k → j < k → k * L + j < n + k → L ≤ (n 
 way-le k j n L hk hj h = le-div-iff-mul-le hk .1 (omega (arith, mul-comm L k))
 
 module _ (W : ℕ → ℕ) (xs : List Item) where
-  deal-grows : (c p : ℕ) (os : List ℕ) → 0 < length os → Once os → ((j : ℕ) → j < length os → (W p + (length os - 1 - j)) / length os ≤ W (getD os j 0))
+  deal-grows : (c p : ℕ) (os : List ℕ) → 0 < length os → Once os
+      → ((j : ℕ) → j < length os → (W p + (length os - 1 - j)) / length os ≤ W (getD os j 0))
       → length xs ≤ W p → (j : ℕ) → j < length os → length (tput (dealOp c p os) nought (getD os j 0) xs) ≤ W (getD os j 0)
   deal-grows c p os h0 u w k j hj =
       rw (deal-put c p os u j hj 0 nought xs refl h0)
-      (le-trans (way-le (length os) j (W p) (length (dealt (length os) j 0 xs)) h0 hj (omega (arith, dealt-le (length os) j 0 j xs hj h0 hj (inl (omega arith))))) (w j hj))
+      (le-trans (way-le (length os) j (W p) (length (dealt (length os) j 0 xs)) h0 hj
+      (omega (arith, dealt-le (length os) j 0 j xs hj h0 hj (inl (omega arith))))) (w j hj))
 
   gather-grows : (c o : ℕ) (is : List ℕ) → 0 < length is → Once is → W o ≡ sum (length is) (λ j. W (getD is j 0))
       → ((p : ℕ) → oneOf p is ≡ true → length (ttake (gatherOp c o is) nought p xs) ≤ W p) → length xs ≤ W o
   gather-grows c o is h0 u w t =
       rw (w, ← (sum-dealt (length is) 0 xs h0))
-      (sum-below (length is) (λ j. length (dealt (length is) j 0 xs)) (λ j. W (getD is j 0)) (λ j hj. rw (gather-take c o is u j hj 0 nought xs refl h0) at (t (getD is j 0) (one-of is j hj))))
+      (sum-below (length is) (λ j. length (dealt (length is) j 0 xs)) (λ j. W (getD is j 0))
+      (λ j hj. rw (gather-take c o is u j hj 0 nought xs refl h0) at (t (getD is j 0) (one-of is j hj))))
 
   pub grows : (κ : Kind) → WEq κ W → Good κ → ((p : ℕ) → takesFrom κ p ≡ true → length (ttake (denote κ) nought p xs) ≤ W p)
       → (q : ℕ) → denote κ .outs q ≡ true → length (tput (denote κ) nought q xs) ≤ W q

@@ -1,20 +1,20 @@
 -- Round-robin: what a deal gives each way, which is also what a gather has taken from each way.
 -- Assumes nothing.
-use mathlib.Core.Path.{_≡_, refl, ap, sym, _∙_, subst, fun-ext}
-use mathlib.Core.Bool.{Bool, true, false, cond, _&&_, _||_}
-use mathlib.Core.Option.{Option, some, none}
+use mathlib.Core.Path.{_≡_, refl, ap}
+use mathlib.Core.Bool.{Bool, true, false, cond, _||_}
+use mathlib.Core.Option.{some, none}
 use mathlib.Core.Logic.{_⊎_, inl, inr, _≢_}
-use mathlib.Core.List.{List, [], _∷_, _++_, head?, append-assoc, append-nil, map}
-use Prim.Native.Nat.{ℕ, zero, suc, _+_, _*_, _-_, _≤_, _<_}
+use mathlib.Core.List.{List, [], _∷_, map}
+use Prim.Native.Nat.{ℕ, zero, suc, _+_, _*_, _-_, _<_}
 use native.Mathlib.Omega.{arith}
 use native.Mathlib.Nat.{mul-zero}
-use lib.ListN.{length, length-append, length-map, getD, set}
+use lib.ListN.{length, getD}
 use lib.Dec.{eqb}
 use lib.IntN.{ℤ, pos, negsuc}
 use borrow.Author.Tests.{eqb-true, eqb-false}
-use Rattle.theory.proofs.Model.{State, Op, Vars, Agree, Local, push, pop}
+use Rattle.theory.proofs.Model.{Op, Local}
 use Rattle.theory.proofs.Trace.{eqb-same, mark, cons?, tv, tput, ttake}
-use Rattle.theory.proofs.Steps.{Item, upd, Alike}
+use Rattle.theory.proofs.Steps.{Item, upd}
 
 abbrev pub onward : ℕ → ℕ → ℕ
 onward k c = cond (eqb (suc c) k) 0 (suc c)
@@ -176,42 +176,52 @@ getD-else (x ∷ l) zero d d′ h = refl
 getD-else (x ∷ l) (suc i) d d′ h = getD-else l i d d′ (omega arith)
 
 -- a deal puts on way j what is dealt to it
-pub deal-put : (c p : ℕ) (os : List ℕ) → Once os → (j : ℕ) → j < length os → (k : ℕ) (v : ℕ → ℤ) (xs : List Item) → v c ≡ pos k → k < length os
+pub deal-put : (c p : ℕ) (os : List ℕ) → Once os → (j : ℕ) → j < length os → (k : ℕ) (v : ℕ → ℤ) (xs : List Item) → v c ≡ pos k
+    → k < length os
     → tput (dealOp c p os) v (getD os j 0) xs ≡ dealt (length os) j k xs
 unfolding dealOp tput dealt
 deal-put c p os u j hj k v [] e hk = refl
 deal-put c p os u j hj k v (x ∷ xs) e hk =
-    let ih = deal-put c p os u j hj (onward (length os) k) (upd c (pos (onward (length os) (natOf (v c)))) v) xs (rw (eqb-same c c refl, e)) (onward-lt (length os) k hk) in
+    let ih = deal-put c p os u j hj (onward (length os) k) (upd c (pos (onward (length os) (natOf (v c)))) v) xs
+    (rw (eqb-same c c refl, e)) (onward-lt (length os) k hk) in
     rw (one-of os j hj, e, once-eqb os u j k hj hk) (ap (cons? (mark (eqb j k) x)) (rw e at ih))
 
 -- a gather has taken from way j what would be dealt to it of all that it put
-pub gather-take : (c o : ℕ) (is : List ℕ) → Once is → (j : ℕ) → j < length is → (k : ℕ) (v : ℕ → ℤ) (xs : List Item) → v c ≡ pos k → k < length is
+pub gather-take : (c o : ℕ) (is : List ℕ) → Once is → (j : ℕ) → j < length is → (k : ℕ) (v : ℕ → ℤ) (xs : List Item) → v c ≡ pos k
+    → k < length is
     → ttake (gatherOp c o is) v (getD is j 0) xs ≡ dealt (length is) j k xs
 unfolding gatherOp ttake dealt
 gather-take c o is u j hj k v [] e hk = refl
 gather-take c o is u j hj k v (x ∷ xs) e hk =
-    let ih = gather-take c o is u j hj (onward (length is) k) (upd c (pos (onward (length is) (natOf (v c)))) v) xs (rw (eqb-same c c refl, e)) (onward-lt (length is) k hk) in
+    let ih = gather-take c o is u j hj (onward (length is) k) (upd c (pos (onward (length is) (natOf (v c)))) v) xs
+    (rw (eqb-same c c refl, e)) (onward-lt (length is) k hk) in
     rw (e, getD-else is k (getD is 0 0) 0 hk, once-eqb is u j k hj hk) (ap (cons? (mark (eqb j k) x)) (rw e at ih))
 
 pub deal-take : (c p : ℕ) (os : List ℕ) (v : ℕ → ℤ) (xs : List Item) → ttake (dealOp c p os) v p xs ≡ xs
 unfolding dealOp ttake
 deal-take c p os v [] = refl
-deal-take c p os v (x ∷ xs) = rw (eqb-same p p refl) (ap (λ (l : List Item). x ∷ l) (deal-take c p os (upd c (pos (onward (length os) (natOf (v c)))) v) xs))
+deal-take c p os v (x ∷ xs) =
+    rw (eqb-same p p refl) (ap (λ (l : List Item). x ∷ l) (deal-take c p os (upd c (pos (onward (length os) (natOf (v c)))) v) xs))
 
 pub gather-put : (c o : ℕ) (is : List ℕ) (v : ℕ → ℤ) (xs : List Item) → tput (gatherOp c o is) v o xs ≡ xs
 unfolding gatherOp tput
 gather-put c o is v [] = refl
-gather-put c o is v (x ∷ xs) = rw (eqb-same o o refl) (ap (λ (l : List Item). x ∷ l) (gather-put c o is (upd c (pos (onward (length is) (natOf (v c)))) v) xs))
+gather-put c o is v (x ∷ xs) =
+    rw (eqb-same o o refl) (ap (λ (l : List Item). x ∷ l) (gather-put c o is (upd c (pos (onward (length is) (natOf (v c)))) v) xs))
 
-pub deal-turn : (c p : ℕ) (os : List ℕ) (k : ℕ) (v : ℕ → ℤ) (xs : List Item) → v c ≡ pos k → tv (dealOp c p os) v xs c ≡ pos (turn (length os) k xs)
+pub deal-turn : (c p : ℕ) (os : List ℕ) (k : ℕ) (v : ℕ → ℤ) (xs : List Item) → v c ≡ pos k
+    → tv (dealOp c p os) v xs c ≡ pos (turn (length os) k xs)
 unfolding dealOp tv turn
 deal-turn c p os k v [] e = e
-deal-turn c p os k v (x ∷ xs) e = deal-turn c p os (onward (length os) k) (upd c (pos (onward (length os) (natOf (v c)))) v) xs (rw (eqb-same c c refl, e))
+deal-turn c p os k v (x ∷ xs) e =
+    deal-turn c p os (onward (length os) k) (upd c (pos (onward (length os) (natOf (v c)))) v) xs (rw (eqb-same c c refl, e))
 
-pub gather-turn : (c o : ℕ) (is : List ℕ) (k : ℕ) (v : ℕ → ℤ) (xs : List Item) → v c ≡ pos k → tv (gatherOp c o is) v xs c ≡ pos (turn (length is) k xs)
+pub gather-turn : (c o : ℕ) (is : List ℕ) (k : ℕ) (v : ℕ → ℤ) (xs : List Item) → v c ≡ pos k
+    → tv (gatherOp c o is) v xs c ≡ pos (turn (length is) k xs)
 unfolding gatherOp tv turn
 gather-turn c o is k v [] e = e
-gather-turn c o is k v (x ∷ xs) e = gather-turn c o is (onward (length is) k) (upd c (pos (onward (length is) (natOf (v c)))) v) xs (rw (eqb-same c c refl, e))
+gather-turn c o is k v (x ∷ xs) e =
+    gather-turn c o is (onward (length is) k) (upd c (pos (onward (length is) (natOf (v c)))) v) xs (rw (eqb-same c c refl, e))
 
 pub turn-lt : {A : Type 0} (n k : ℕ) (xs : List A) → k < n → turn n k xs < n
 unfolding turn

@@ -1,21 +1,21 @@
 -- Each kind as an operator; its equations are what it comes to once it can do no more.
 -- Assumes nothing.
-use mathlib.Core.Path.{_≡_, refl, ap, sym, _∙_, subst, fun-ext}
-use mathlib.Core.Bool.{Bool, true, false, cond, _&&_, _||_}
-use mathlib.Core.Option.{Option, some, none}
-use mathlib.Core.Logic.{_⊎_, inl, inr, _≢_}
-use mathlib.Core.List.{List, [], _∷_, _++_, head?, append-assoc, append-nil, map}
-use Prim.Native.Nat.{ℕ, zero, suc, _+_, _*_, _-_, _≤_, _<_}
+use mathlib.Core.Path.{_≡_, refl, ap, sym, _∙_, subst}
+use mathlib.Core.Bool.{Bool, true, false, _||_}
+use mathlib.Core.Option.{none}
+use mathlib.Core.List.{List, [], _∷_, _++_, append-nil}
+use Prim.Native.Nat.{ℕ, suc, _<_}
 use native.Mathlib.Omega.{arith}
-use lib.ListN.{length, length-append, getD}
+use lib.ListN.{length, getD}
 use lib.Dec.{eqb}
-use lib.IntN.{ℤ, pos, negsuc}
-use borrow.Author.Tests.{eqb-true, eqb-false}
-use Rattle.theory.proofs.Model.{Op, Vars, Local}
-use Rattle.theory.proofs.Trace.{eqb-same, mark, cons?, tv, tput, ttake, Fits, Ends, OpSol}
-use Rattle.theory.proofs.Steps.{Item, Step, upd, names, lout, lvars, lineOp, line-local, line-put, line-take, line-var}
-use Rattle.theory.proofs.Deal.{dealt, turn, turn-lt, getD-else, natOf, oneOf, Once, dealOp, gatherOp, deal-local, gather-local, deal-put, deal-take, deal-turn, gather-put, gather-take, gather-turn, one-of}
-use Rattle.theory.proofs.Equations.{Kind, line, latest, double, deal, gather, nought, lastOf, Whole, Eq, Ways}
+use lib.IntN.{ℤ, pos}
+use borrow.Author.Tests.{eqb-true}
+use Rattle.theory.proofs.Model.{Op, Local}
+use Rattle.theory.proofs.Trace.{eqb-same, mark, tv, tput, ttake, Fits, OpSol}
+use Rattle.theory.proofs.Steps.{Item, Step, upd, lout, lvars, lineOp, line-local, line-put, line-take, line-var}
+use Rattle.theory.proofs.Deal.{dealt, turn, turn-lt, getD-else, natOf, oneOf, Once, dealOp, gatherOp, deal-local, gather-local}
+use Rattle.theory.proofs.Deal.{deal-put, deal-take, deal-turn, gather-put, gather-take, gather-turn, one-of}
+use Rattle.theory.proofs.Equations.{Kind, line, latest, double, deal, gather, nought, lastOf, Whole, Eq}
 
 unfoldable pub latestOp : ℕ → ℕ → ℕ → Op Item ℤ
 latestOp p k f = record {
@@ -111,7 +111,8 @@ pub way-of : (qs : List ℕ) (q : ℕ) → oneOf q qs ≡ true → (j : ℕ) × 
 way-of [] q h = let z : _≡_ {A = ℕ} 0 1 = cc in absurd (omega arith)
 way-of (r ∷ qs) q h = go (eqb q r) refl h (λ h. way-of qs q h)
   where
-    go : (b : Bool) → eqb q r ≡ b → (b || oneOf q qs) ≡ true → (oneOf q qs ≡ true → (j : ℕ) × (j < length qs) × (getD qs j 0 ≡ q)) → (j : ℕ) × (j < suc (length qs)) × (getD (r ∷ qs) j 0 ≡ q)
+    go : (b : Bool) → eqb q r ≡ b → (b || oneOf q qs) ≡ true → (oneOf q qs ≡ true → (j : ℕ) × (j < length qs) × (getD qs j 0 ≡ q))
+        → (j : ℕ) × (j < suc (length qs)) × (getD (r ∷ qs) j 0 ≡ q)
     go true e h ih = (0, omega arith, sym (eqb-true q r e))
     go false e h ih = let k = ih h in (suc (k .0), omega (arith, k .1), k .2)
 
@@ -127,7 +128,9 @@ module _ (H : Whole) (u : ℕ → ℤ) (R : ℕ → Type 0) where
 
   latest-eq : (p k f : ℕ) → OpSol (latestOp p k f) R nought H u → Eq (latest p k f) H u
   unfolding Eq latestOp
-  latest-eq p k f s = s .vars k (eqb-same k k refl) ∙ latest-var p k f nought (s .tr) ∙ ap (lastOf (pos 0) f) (sym (latest-take p k f nought (s .tr)) ∙ s .ends)
+  latest-eq p k f s =
+      s .vars k (eqb-same k k refl) ∙ latest-var p k f nought (s .tr)
+      ∙ ap (lastOf (pos 0) f) (sym (latest-take p k f nought (s .tr)) ∙ s .ends)
 
   double-eq : (p o o′ : ℕ) → OpSol (doubleOp p o o′) R nought H u → Eq (double p o o′) H u
   unfolding Eq doubleOp
@@ -145,7 +148,8 @@ module _ (H : Whole) (u : ℕ → ℤ) (R : ℕ → Type 0) where
         s .vars c (eqb-same c c refl) ∙ deal-turn c p os 0 nought (s .tr) refl ∙ ap (λ (l : List Item). pos (turn (length os) 0 l)) h,
       )
 
-  gather-eq : (c o : ℕ) (is : List ℕ) → 0 < length is → Once is → ((p : ℕ) → oneOf p is ≡ true → R p) → OpSol (gatherOp c o is) R nought H u → Eq (gather c o is) H u
+  gather-eq : (c o : ℕ) (is : List ℕ) → 0 < length is → Once is → ((p : ℕ) → oneOf p is ≡ true → R p)
+      → OpSol (gatherOp c o is) R nought H u → Eq (gather c o is) H u
   unfolding Eq gatherOp
   gather-eq c o is w d r s =
       let h : H o ≡ s .tr = s .puts o (eqb-same o o refl) ∙ gather-put c o is nought (s .tr) in
@@ -154,8 +158,10 @@ module _ (H : Whole) (u : ℕ → ℤ) (R : ℕ → Type 0) where
       let g : getD is (natOf (tv (gatherOp c o is) nought (s .tr) c)) (getD is 0 0) ≡ getD is t 0 =
       rw (gather-turn c o is 0 nought (s .tr) refl) (getD-else is t (getD is 0 0) 0 ht) in
       rw h (
-        (λ j hj. let k = s .takes (getD is j 0) (r (getD is j 0) (one-of is j hj)) in (k .0, ap (λ (l : List Item). l ++ k .0) (sym (gather-take c o is d j hj 0 nought (s .tr) refl w)) ∙ k .1)),
-        sym (gather-take c o is d t ht 0 nought (s .tr) refl w) ∙ subst (λ (q : ℕ). ttake (gatherOp c o is) nought q (s .tr) ≡ H q) g (s .ends),
+        (λ j hj. let k = s .takes (getD is j 0) (r (getD is j 0) (one-of is j hj)) in
+            (k .0, ap (λ (l : List Item). l ++ k .0) (sym (gather-take c o is d j hj 0 nought (s .tr) refl w)) ∙ k .1)),
+        sym (gather-take c o is d t ht 0 nought (s .tr) refl w)
+            ∙ subst (λ (q : ℕ). ttake (gatherOp c o is) nought q (s .tr) ≡ H q) g (s .ends),
         s .vars c (eqb-same c c refl) ∙ gather-turn c o is 0 nought (s .tr) refl,
       )
 
@@ -171,7 +177,8 @@ module _ (H : Whole) (u : ℕ → ℤ) (R : ℕ → Type 0) where
 module _ (H : Whole) (u : ℕ → ℤ) (R : ℕ → Type 0) where
   -- an operator that takes from one queue takes all of it
   all-taken : (o : Op Item ℤ) (p : ℕ) → ((q : ℕ) → R q → eqb q p ≡ true) → ttake o nought p (H p) ≡ H p → Fits o R nought H (H p)
-  all-taken o p r e q h = ([], subst (λ (k : ℕ). ttake o nought k (H p) ++ [] ≡ H k) (sym (eqb-true q p (r q h))) (append-nil (ttake o nought p (H p)) ∙ e))
+  all-taken o p r e q h =
+      ([], subst (λ (k : ℕ). ttake o nought k (H p) ++ [] ≡ H k) (sym (eqb-true q p (r q h))) (append-nil (ttake o nought p (H p)) ∙ e))
 
   eq-line : (p o : ℕ) (ss : List Step) → ((q : ℕ) → R q → eqb q p ≡ true) → Eq (line p o ss) H u → OpSol (lineOp p o ss) R nought H u
   unfolding Eq lineOp
@@ -179,7 +186,8 @@ module _ (H : Whole) (u : ℕ → ℤ) (R : ℕ → Type 0) where
     tr = H p;
     takes = all-taken (lineOp p o ss) p r (line-take p o ss nought (H p));
     ends = line-take p o ss nought (H p);
-    puts = λ q h. subst (λ (k : ℕ). H k ≡ tput (lineOp p o ss) nought k (H p)) (sym (eqb-true q o h)) (e .0 ∙ sym (line-put p o ss nought (H p)));
+    puts = λ q h.
+        subst (λ (k : ℕ). H k ≡ tput (lineOp p o ss) nought k (H p)) (sym (eqb-true q o h)) (e .0 ∙ sym (line-put p o ss nought (H p)));
     vars = λ k h. e .1 k h ∙ sym (ap (λ (f : ℕ → ℤ). f k) (line-var p o ss nought (H p)));
   }
 
@@ -190,7 +198,8 @@ module _ (H : Whole) (u : ℕ → ℤ) (R : ℕ → Type 0) where
     takes = all-taken (latestOp p k f) p r (latest-take p k f nought (H p));
     ends = latest-take p k f nought (H p);
     puts = λ q h. let z : _≡_ {A = ℕ} 0 1 = cc in absurd (omega arith);
-    vars = λ i h. subst (λ (k′ : ℕ). u k′ ≡ tv (latestOp p k f) nought (H p) k′) (sym (eqb-true i k h)) (e ∙ sym (latest-var p k f nought (H p)));
+    vars = λ i h.
+        subst (λ (k′ : ℕ). u k′ ≡ tv (latestOp p k f) nought (H p) k′) (sym (eqb-true i k h)) (e ∙ sym (latest-var p k f nought (H p)));
   }
 
   eq-double : (p o o′ : ℕ) → ((q : ℕ) → R q → eqb q p ≡ true) → Eq (double p o o′) H u → OpSol (doubleOp p o o′) R nought H u
@@ -207,17 +216,24 @@ module _ (H : Whole) (u : ℕ → ℤ) (R : ℕ → Type 0) where
       go q true h t = rw (eqb-true q o h) (e .0)
       go q false h t = rw (eqb-true q o′ t) (e .1)
 
-  eq-deal : (c p : ℕ) (os : List ℕ) → 0 < length os → Once os → ((q : ℕ) → R q → eqb q p ≡ true) → Eq (deal c p os) H u → OpSol (dealOp c p os) R nought H u
+  eq-deal : (c p : ℕ) (os : List ℕ) → 0 < length os → Once os → ((q : ℕ) → R q → eqb q p ≡ true) → Eq (deal c p os) H u
+      → OpSol (dealOp c p os) R nought H u
   unfolding Eq dealOp
   eq-deal c p os w o r e = record {
     tr = H p;
     takes = all-taken (dealOp c p os) p r (deal-take c p os nought (H p));
     ends = deal-take c p os nought (H p);
-    puts = λ q h. let j = way-of os q h in subst (λ (k : ℕ). H k ≡ tput (dealOp c p os) nought k (H p)) (j .2) (e .0 (j .0) (j .1) ∙ sym (deal-put c p os o (j .0) (j .1) 0 nought (H p) refl w));
-    vars = λ i h. subst (λ (k : ℕ). u k ≡ tv (dealOp c p os) nought (H p) k) (sym (eqb-true i c h)) (e .1 ∙ sym (deal-turn c p os 0 nought (H p) refl));
+    puts = λ q h.
+        let j = way-of os q h in
+        subst (λ (k : ℕ). H k ≡ tput (dealOp c p os) nought k (H p)) (j .2)
+        (e .0 (j .0) (j .1) ∙ sym (deal-put c p os o (j .0) (j .1) 0 nought (H p) refl w));
+    vars = λ i h.
+        subst (λ (k : ℕ). u k ≡ tv (dealOp c p os) nought (H p) k) (sym (eqb-true i c h))
+        (e .1 ∙ sym (deal-turn c p os 0 nought (H p) refl));
   }
 
-  eq-gather : (c o : ℕ) (is : List ℕ) → 0 < length is → Once is → ((q : ℕ) → R q → oneOf q is ≡ true) → Eq (gather c o is) H u → OpSol (gatherOp c o is) R nought H u
+  eq-gather : (c o : ℕ) (is : List ℕ) → 0 < length is → Once is → ((q : ℕ) → R q → oneOf q is ≡ true) → Eq (gather c o is) H u
+      → OpSol (gatherOp c o is) R nought H u
   unfolding Eq gatherOp
   eq-gather c o is w d r e = record {
     tr = H o;
@@ -230,8 +246,11 @@ module _ (H : Whole) (u : ℕ → ℤ) (R : ℕ → Type 0) where
         let g : getD is (natOf (tv (gatherOp c o is) nought (H o) c)) (getD is 0 0) ≡ getD is t 0 =
         rw (gather-turn c o is 0 nought (H o) refl) (getD-else is t (getD is 0 0) 0 ht) in
         subst (λ (q : ℕ). ttake (gatherOp c o is) nought q (H o) ≡ H q) (sym g) (gather-take c o is d t ht 0 nought (H o) refl w ∙ e .1);
-    puts = λ q h. subst (λ (k : ℕ). H k ≡ tput (gatherOp c o is) nought k (H o)) (sym (eqb-true q o h)) (sym (gather-put c o is nought (H o)));
-    vars = λ i h. subst (λ (k : ℕ). u k ≡ tv (gatherOp c o is) nought (H o) k) (sym (eqb-true i c h)) (e .2 ∙ sym (gather-turn c o is 0 nought (H o) refl));
+    puts = λ q h.
+        subst (λ (k : ℕ). H k ≡ tput (gatherOp c o is) nought k (H o)) (sym (eqb-true q o h)) (sym (gather-put c o is nought (H o)));
+    vars = λ i h.
+        subst (λ (k : ℕ). u k ≡ tv (gatherOp c o is) nought (H o) k) (sym (eqb-true i c h))
+        (e .2 ∙ sym (gather-turn c o is 0 nought (H o) refl));
   }
 
   pub eq-sol : (κ : Kind) → ((p : ℕ) → R p → takesFrom κ p ≡ true) → Good κ → Eq κ H u → OpSol (denote κ) R nought H u

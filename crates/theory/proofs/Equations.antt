@@ -1,22 +1,22 @@
--- The kinds of operators, the equations between the whole contents of queues that each stands for, and what the rewritings do to them.
+-- The kinds of operators, the equations between the whole contents of queues that each stands for,
+-- and step lists that commute or drop nothing.
 -- Assumes nothing.
-use mathlib.Core.Path.{_≡_, refl, ap, sym, _∙_, subst, fun-ext}
+use mathlib.Core.Path.{_≡_, refl, ap, sym, _∙_, fun-ext}
 use mathlib.Core.Bool.{Bool, true, false, cond, _&&_, _||_, or-assoc}
 use mathlib.Core.Option.{Option, some, none}
-use mathlib.Core.Logic.{_⊎_, inl, inr, _≢_}
-use mathlib.Core.List.{List, [], _∷_, _++_, head?, append-assoc, append-nil, map}
-use Prim.Native.Nat.{ℕ, zero, suc, _+_, _*_, _-_, _≤_, _<_}
+use mathlib.Core.Logic.{_≢_}
+use mathlib.Core.List.{List, [], _∷_, _++_, map}
+use Prim.Native.Nat.{ℕ, _<_}
 use native.Mathlib.Omega.{arith}
-use lib.ListN.{length, length-append, length-map, getD, set, List·getD-map}
-use lib.Dec.{eqb, ltb}
-use lib.IntN.{ℤ, pos, negsuc}
+use lib.ListN.{length, getD, set}
+use lib.Dec.{eqb}
+use lib.IntN.{ℤ, pos}
 use lib.Signed.{leZ}
 use lib.Seq.{getD-set-other, set-comm}
-use borrow.Author.Tests.{eqb-true, eqb-false, ltb-true, ltb-false}
-use Rattle.theory.proofs.Model.{State, Op, Vars, Agree, Local, push, pop}
-use Rattle.theory.proofs.Trace.{eqb-same, mark, cons?, tv, tput, ttake}
-use Rattle.theory.proofs.Steps.{Item, Step, keep, add, copy, count, stamp, one, then, named, plus, upd, Alike, names, runs, lout, lvars, lineOp, Fused, fuse}
-use Rattle.theory.proofs.Deal.{dealt, turn, dealt-map, turn-map, turn-lt, getD-else, natOf, dealOp, gatherOp}
+use borrow.Author.Tests.{eqb-false}
+use Rattle.theory.proofs.Trace.{eqb-same, cons?}
+use Rattle.theory.proofs.Steps.{Item, Step, keep, add, copy, count, stamp, one, then, named, plus, names, runs, lout, lvars}
+use Rattle.theory.proofs.Deal.{dealt, turn}
 
 pub data Kind : Type 0 where
   line : ℕ → ℕ → List Step → Kind
@@ -41,7 +41,8 @@ Eq (latest p k f) H u = u k ≡ lastOf (pos 0) f (H p)
 Eq (double p o o′) H u = (H o ≡ H p) × (H o′ ≡ H p)
 Eq (deal c p os) H u = ((j : ℕ) → j < length os → H (getD os j 0) ≡ dealt (length os) j 0 (H p)) × (u c ≡ pos (turn (length os) 0 (H p)))
 Eq (gather c o is) H u = ((j : ℕ) → j < length is → (r : List Item) × (dealt (length is) j 0 (H o) ++ r ≡ H (getD is j 0)))
-    × (dealt (length is) (turn (length is) 0 (H o)) 0 (H o) ≡ H (getD is (turn (length is) 0 (H o)) 0)) × (u c ≡ pos (turn (length is) 0 (H o)))
+    × (dealt (length is) (turn (length is) 0 (H o)) 0 (H o) ≡ H (getD is (turn (length is) 0 (H o)) 0)) ×
+    (u c ≡ pos (turn (length is) 0 (H o)))
 
 -- a property of each queue, and of each variable, that an operator names
 unfoldable pub Queues : Kind → (ℕ → Type 0) → Type 0
@@ -65,9 +66,6 @@ ren ρ (double p o o′) = double (ρ p) (ρ o) (ρ o′)
 ren ρ (deal c p os) = deal c (ρ p) (map ρ os)
 ren ρ (gather c o is) = gather c (ρ o) (map ρ is)
 
-getD-ren : (ρ : ℕ → ℕ) (l : List ℕ) (j : ℕ) → j < length l → getD (map ρ l) j 0 ≡ ρ (getD l j 0)
-getD-ren ρ l j h = getD-else (map ρ l) j 0 (ρ 0) (rw (length-map l ρ) h) ∙ List·getD-map ρ l j 0
-
 unfoldable pub Ways : Kind → Type 0
 Ways (line p o ss) = Unit
 Ways (latest p k f) = Unit
@@ -75,33 +73,11 @@ Ways (double p o o′) = Unit
 Ways (deal c p os) = 0 < length os
 Ways (gather c o is) = 0 < length is
 
--- queues renamed, and contents that agree where the operator looks
-pub eq-ren : (κ : Kind) (ρ : ℕ → ℕ) (H H′ : Whole) (u u′ : ℕ → ℤ) → Ways κ → Queues κ (λ r. H′ (ρ r) ≡ H r) → Variables κ (λ k. u′ k ≡ u k) → Eq κ H u → Eq (ren ρ κ) H′ u′
-unfolding Eq Queues Variables ren Ways
-eq-ren (line p o ss) ρ H H′ u u′ w q v e = rw (q .0, q .1) (e .0, λ k h. v k h ∙ e .1 k h)
-eq-ren (latest p k f) ρ H H′ u u′ w q v e = rw (q, v) e
-eq-ren (double p o o′) ρ H H′ u u′ w q v e = rw (q .0, q .1, q .2) e
-eq-ren (deal c p os) ρ H H′ u u′ w q v e = rw (q .0, v, length-map os ρ) ((λ j h. ap H′ (getD-ren ρ os j h) ∙ q .1 j h ∙ e .0 j h), e .1)
-eq-ren (gather c o is) ρ H H′ u u′ w q v e = rw (q .0, v, length-map is ρ) ((λ j h. (e .0 j h .0, e .0 j h .1 ∙ sym (ap H′ (getD-ren ρ is j h) ∙ q .1 j h))), e .1 ∙ sym (ap H′ (getD-ren ρ is (turn (length is) 0 (H o)) (turn-lt (length is) 0 (H o) w)) ∙ q .1 (turn (length is) 0 (H o)) (turn-lt (length is) 0 (H o) w)), e .2)
-
--- fuse
+-- the variables of two step lists, one after the other
 pub names-append : (a b : List Step) (k : ℕ) → names (a ++ b) k ≡ (names a k || names b k)
 unfolding names
 names-append [] b k = refl
 names-append (s ∷ a) b k = rw (names-append a b k) (sym (or-assoc (named s k) (names a k) (names b k)))
-
-pub fuse-eq : (p m o : ℕ) (a b : List Step) (H : Whole) (u : ℕ → ℤ) → ((i : ℕ) → names a i ≡ true → names b i ≡ false) → ((i : ℕ) → names b i ≡ true → names a i ≡ false)
-    → Eq (line p m a) H u → Eq (line m o b) H u → Eq (line p o (a ++ b)) H u
-unfolding Eq
-fuse-eq p m o a b H u ab ba ea eb = (eb .0 ∙ ap (lout b nought) (ea .0) ∙ sym (f .out), λ k h. each k (names a k) refl (names b k) refl (rw names-append at h))
-  where
-    f : Fused a b ab ba nought nought nought (H p)
-    f = fuse a b ab ba (H p) nought nought nought (λ i e. refl) (λ i e. refl)
-
-    each : (k : ℕ) (x : Bool) → names a k ≡ x → (y : Bool) → names b k ≡ y → (names a k || names b k) ≡ true → u k ≡ lvars (a ++ b) nought (H p) k
-    each k true ex y ey h = ea .1 k ex ∙ sym (f .first k ex)
-    each k false ex true ey h = eb .1 k ey ∙ ap (λ (l : List Item). lvars b nought l k) (ea .0) ∙ sym (f .second k ey)
-    each k false ex false ey h = let z : _≡_ {A = ℕ} 0 1 = cc in absurd (omega arith)
 
 -- steps that touch no variable
 abbrev pub bindO : Option Item → (Item → Option Item) → Option Item
@@ -149,13 +125,14 @@ and-right false b h = let z : _≡_ {A = ℕ} 0 1 = cc in absurd (omega arith)
 runs-pure : (ss : List Step) (x : Item) (v : ℕ → ℤ) → pure ss ≡ true → runs ss x v ≡ (pruns ss x, v)
 unfolding runs pure pruns
 runs-pure [] x v h = refl
-runs-pure (s ∷ ss) x v h = rw (one-pure s x v (and-left (pure1 s) (pure ss) h)) (go (p1 s x) (λ y. runs-pure ss y v (and-right (pure1 s) (pure ss) h)))
+runs-pure (s ∷ ss) x v h =
+    rw (one-pure s x v (and-left (pure1 s) (pure ss) h)) (go (p1 s x) (λ y. runs-pure ss y v (and-right (pure1 s) (pure ss) h)))
   where
     go : (o : Option Item) → ((y : Item) → runs ss y v ≡ (pruns ss y, v)) → then o v (λ y w. runs ss y w) ≡ (bindO o (λ y. pruns ss y), v)
     go none ih = refl
     go (some y) ih = ih y
 
-lout-pure : (ss : List Step) (v : ℕ → ℤ) (xs : List Item) → pure ss ≡ true → lout ss v xs ≡ sift (pruns ss) xs
+pub lout-pure : (ss : List Step) (v : ℕ → ℤ) (xs : List Item) → pure ss ≡ true → lout ss v xs ≡ sift (pruns ss) xs
 unfolding lout sift
 lout-pure ss v [] h = refl
 lout-pure ss v (x ∷ xs) h = rw (runs-pure ss x v h) (ap (cons? (pruns ss x)) (lout-pure ss v xs h))
@@ -172,36 +149,17 @@ pure-names (s ∷ ss) k h = go s (and-left (pure1 s) (pure ss) h) (pure-names ss
     go (count k p) h ih = let z : _≡_ {A = ℕ} 0 1 = cc in absurd (omega arith)
     go (stamp k p) h ih = let z : _≡_ {A = ℕ} 0 1 = cc in absurd (omega arith)
 
-sift-sift : (f g : Item → Option Item) (xs : List Item) → sift g (sift f xs) ≡ sift (λ x. bindO (f x) g) xs
+pub sift-sift : (f g : Item → Option Item) (xs : List Item) → sift g (sift f xs) ≡ sift (λ x. bindO (f x) g) xs
 unfolding sift
 sift-sift f g [] = refl
 sift-sift f g (x ∷ xs) = go (f x) (sift-sift f g xs)
   where
-    go : (o : Option Item) → sift g (sift f xs) ≡ sift (λ x. bindO (f x) g) xs → sift g (cons? o (sift f xs)) ≡ cons? (bindO o g) (sift (λ x. bindO (f x) g) xs)
+    go : (o : Option Item) → sift g (sift f xs) ≡ sift (λ x. bindO (f x) g) xs
+        → sift g (cons? o (sift f xs)) ≡ cons? (bindO o g) (sift (λ x. bindO (f x) g) xs)
     go none ih = ih
     go (some y) ih = ap (cons? (g y)) ih
 
-lout-two : (a b : List Step) (v w : ℕ → ℤ) (xs : List Item) → pure a ≡ true → pure b ≡ true → lout b w (lout a v xs) ≡ sift (λ x. bindO (pruns a x) (pruns b)) xs
-lout-two a b v w xs pa pb = lout-pure b w (lout a v xs) pb ∙ ap (sift (pruns b)) (lout-pure a v xs pa) ∙ sift-sift (pruns a) (pruns b) xs
-
--- reorder: two step lists that commute item by item
-pub reorder-eq : (p m o : ℕ) (a b : List Step) (H H′ : Whole) (u : ℕ → ℤ) → pure a ≡ true → pure b ≡ true → ((x : Item) → bindO (pruns a x) (pruns b) ≡ bindO (pruns b x) (pruns a))
-    → H′ p ≡ H p → H′ o ≡ H o → H′ m ≡ lout b nought (H p)
-    → Eq (line p m a) H u → Eq (line m o b) H u → Eq (line p m b) H′ u × Eq (line m o a) H′ u
-unfolding Eq
-reorder-eq p m o a b H H′ u pa pb c hp ho hm ea eb = (
-  (rw (hp, hm), λ k h. no-name b pb k h),
-  (
-    ho ∙ eb .0 ∙ ap (lout b nought) (ea .0) ∙ lout-two a b nought nought (H p) pa pb ∙ ap (λ (f : Item → Option Item). sift f (H p)) (fun-ext c)
-        ∙ sym (lout-two b a nought nought (H p) pb pa) ∙ ap (lout a nought) (sym hm),
-    λ k h. no-name a pa k h,
-  ),
-)
-  where
-    no-name : (ss : List Step) → pure ss ≡ true → (k : ℕ) → names ss k ≡ true → {A : Type 0} → A
-    no-name ss h k e = let g = pure-names ss k h in let z : _≡_ {A = ℕ} 0 1 = cc in absurd (omega arith)
-
--- when they do: no field that either writes is read or written by the other
+-- two step lists commute item by item where no field that either writes is read or written by the other
 abbrev pub reads : Step → ℕ → Bool
 reads (keep p lo hi) f = eqb f p
 reads (add p lo) f = eqb f p
@@ -223,23 +181,27 @@ abbrev kept : ℕ → ℤ → ℤ → Item → Option Item
 kept p lo hi x = cond (leZ lo (getD x p (pos 0)) && leZ (getD x p (pos 0)) hi) (some x) none
 
 keep-keep : (p q : ℕ) (lo hi lo′ hi′ : ℤ) (x : Item) → bindO (kept p lo hi x) (kept q lo′ hi′) ≡ bindO (kept q lo′ hi′ x) (kept p lo hi)
-keep-keep p q lo hi lo′ hi′ x = go (leZ lo (getD x p (pos 0)) && leZ (getD x p (pos 0)) hi) refl (leZ lo′ (getD x q (pos 0)) && leZ (getD x q (pos 0)) hi′) refl
+keep-keep p q lo hi lo′ hi′ x =
+    go (leZ lo (getD x p (pos 0)) && leZ (getD x p (pos 0)) hi) refl (leZ lo′ (getD x q (pos 0)) && leZ (getD x q (pos 0)) hi′) refl
   where
-    go : (a : Bool) → (leZ lo (getD x p (pos 0)) && leZ (getD x p (pos 0)) hi) ≡ a → (b : Bool) → (leZ lo′ (getD x q (pos 0)) && leZ (getD x q (pos 0)) hi′) ≡ b
+    go : (a : Bool) → (leZ lo (getD x p (pos 0)) && leZ (getD x p (pos 0)) hi) ≡ a → (b : Bool)
+        → (leZ lo′ (getD x q (pos 0)) && leZ (getD x q (pos 0)) hi′) ≡ b
         → bindO (cond a (some x) none) (kept q lo′ hi′) ≡ bindO (cond b (some x) none) (kept p lo hi)
     go true ea true eb = rw (ea, eb)
     go true ea false eb = rw eb
     go false ea true eb = rw ea
     go false ea false eb = refl
 
-keep-put : (p r : ℕ) (lo hi : ℤ) (val : Item → ℤ) → p ≢ r → (x : Item) → bindO (kept p lo hi x) (λ y. some (set y r (val y))) ≡ kept p lo hi (set x r (val x))
+keep-put : (p r : ℕ) (lo hi : ℤ) (val : Item → ℤ) → p ≢ r → (x : Item)
+    → bindO (kept p lo hi x) (λ y. some (set y r (val y))) ≡ kept p lo hi (set x r (val x))
 keep-put p r lo hi val n x = rw (getD-set-other x r p (val x) (pos 0) n) (go (leZ lo (getD x p (pos 0)) && leZ (getD x p (pos 0)) hi))
   where
     go : (b : Bool) → bindO (cond b (some x) none) (λ y. some (set y r (val y))) ≡ cond b (some (set x r (val x))) none
     go true = refl
     go false = refl
 
-put-put : (r s : ℕ) (f g : Item → ℤ) (x : Item) → r ≢ s → g (set x r (f x)) ≡ g x → f (set x s (g x)) ≡ f x → some (set (set x r (f x)) s (g (set x r (f x)))) ≡ some (set (set x s (g x)) r (f (set x s (g x))))
+put-put : (r s : ℕ) (f g : Item → ℤ) (x : Item) → r ≢ s → g (set x r (f x)) ≡ g x → f (set x s (g x)) ≡ f x
+    → some (set (set x r (f x)) s (g (set x r (f x)))) ≡ some (set (set x s (g x)) r (f (set x s (g x))))
 put-put r s f g x n hg hf = rw (hg, hf) (ap {B = Option Item} some (set-comm x r s (f x) (g x) n))
 
 ne : (p r : ℕ) → eqb p r ≡ false → p ≢ r
@@ -251,25 +213,30 @@ en p r e h = eqb-false p r e (sym h)
 off : {A : Type 0} → false ≡ true → A
 off e = let z : _≡_ {A = ℕ} 0 1 = cc in absurd (omega arith)
 
-add-copy : (p q r : ℕ) (a : ℤ) → eqb p q ≡ false → eqb p r ≡ false → (x : Item) → bindO (p1 (add p a) x) (p1 (copy q r)) ≡ bindO (p1 (copy q r) x) (p1 (add p a))
+add-copy : (p q r : ℕ) (a : ℤ) → eqb p q ≡ false → eqb p r ≡ false → (x : Item)
+    → bindO (p1 (add p a) x) (p1 (copy q r)) ≡ bindO (p1 (copy q r) x) (p1 (add p a))
 unfolding one
 add-copy p q r a hq hr x = put-put p r (λ y. plus (getD y p (pos 0)) a) (λ y. getD y q (pos 0)) x (ne p r hr)
     (getD-set-other x p q (plus (getD x p (pos 0)) a) (pos 0) (en p q hq))
     (ap (λ (z : ℤ). plus z a) (getD-set-other x r p (getD x q (pos 0)) (pos 0) (ne p r hr)))
 
-pub commute1 : (s t : Step) → pure1 s ≡ true → pure1 t ≡ true → Free s t → Free t s → (x : Item) → bindO (p1 s x) (p1 t) ≡ bindO (p1 t x) (p1 s)
+pub commute1 : (s t : Step) → pure1 s ≡ true → pure1 t ≡ true → Free s t → Free t s → (x : Item)
+    → bindO (p1 s x) (p1 t) ≡ bindO (p1 t x) (p1 s)
 unfolding one
 commute1 (keep p lo hi) (keep q lo′ hi′) hs ht f g x = keep-keep p q lo hi lo′ hi′ x
 commute1 (keep p lo hi) (add q a) hs ht f g x = keep-put p q lo hi (λ y. plus (getD y q (pos 0)) a) (en q p (g q (eqb-same q q refl) .0)) x
 commute1 (keep p lo hi) (copy q r) hs ht f g x = keep-put p r lo hi (λ y. getD y q (pos 0)) (en r p (g r (eqb-same r r refl) .0)) x
-commute1 (add q a) (keep p lo hi) hs ht f g x = sym (keep-put p q lo hi (λ y. plus (getD y q (pos 0)) a) (en q p (f q (eqb-same q q refl) .0)) x)
+commute1 (add q a) (keep p lo hi) hs ht f g x =
+    sym (keep-put p q lo hi (λ y. plus (getD y q (pos 0)) a) (en q p (f q (eqb-same q q refl) .0)) x)
 commute1 (copy q r) (keep p lo hi) hs ht f g x = sym (keep-put p r lo hi (λ y. getD y q (pos 0)) (en r p (f r (eqb-same r r refl) .0)) x)
-commute1 (add p a) (add q b) hs ht f g x = put-put p q (λ y. plus (getD y p (pos 0)) a) (λ y. plus (getD y q (pos 0)) b) x (ne p q (f p (eqb-same p p refl) .0))
+commute1 (add p a) (add q b) hs ht f g x =
+    put-put p q (λ y. plus (getD y p (pos 0)) a) (λ y. plus (getD y q (pos 0)) b) x (ne p q (f p (eqb-same p p refl) .0))
     (ap (λ (z : ℤ). plus z b) (getD-set-other x p q (plus (getD x p (pos 0)) a) (pos 0) (en p q (f p (eqb-same p p refl) .0))))
     (ap (λ (z : ℤ). plus z a) (getD-set-other x q p (plus (getD x q (pos 0)) b) (pos 0) (en q p (g q (eqb-same q q refl) .0))))
 commute1 (add p a) (copy q r) hs ht f g x = add-copy p q r a (f p (eqb-same p p refl) .0) (f p (eqb-same p p refl) .1) x
 commute1 (copy q r) (add p a) hs ht f g x = sym (add-copy p q r a (g p (eqb-same p p refl) .0) (g p (eqb-same p p refl) .1) x)
-commute1 (copy p r) (copy q s) hs ht f g x = put-put r s (λ y. getD y p (pos 0)) (λ y. getD y q (pos 0)) x (ne r s (f r (eqb-same r r refl) .1))
+commute1 (copy p r) (copy q s) hs ht f g x =
+    put-put r s (λ y. getD y p (pos 0)) (λ y. getD y q (pos 0)) x (ne r s (f r (eqb-same r r refl) .1))
     (getD-set-other x r q (getD x p (pos 0)) (pos 0) (en r q (f r (eqb-same r r refl) .0)))
     (getD-set-other x s p (getD x q (pos 0)) (pos 0) (en s p (g s (eqb-same s s refl) .0)))
 commute1 (keep p lo hi) (count k r) hs ht f g x = off ht
@@ -299,7 +266,8 @@ commute-one : (s : Step) (b : List Step) → pure1 s ≡ true → Frees s b → 
 unfolding pruns
 commute-one s [] ps fr x = bind-some (p1 s x)
 commute-one s (t ∷ b) ps fr x =
-    sym (bind-assoc (p1 s x) (p1 t) (λ y. pruns b y)) ∙ ap (λ (o : Option Item). bindO o (λ y. pruns b y)) (commute1 s t ps (fr .2) (fr .0) (fr .1) x)
+    sym (bind-assoc (p1 s x) (p1 t) (λ y. pruns b y))
+    ∙ ap (λ (o : Option Item). bindO o (λ y. pruns b y)) (commute1 s t ps (fr .2) (fr .0) (fr .1) x)
     ∙ bind-assoc (p1 t x) (p1 s) (λ y. pruns b y) ∙ ap (bindO (p1 t x)) (fun-ext (λ y. commute-one s b ps (fr .3) y))
     ∙ sym (bind-assoc (p1 t x) (λ y. pruns b y) (p1 s))
 
@@ -312,7 +280,8 @@ unfolding pruns
 commute [] b fr x = sym (bind-some (pruns b x))
 commute (s ∷ a) b fr x =
     bind-assoc (p1 s x) (λ y. pruns a y) (pruns b) ∙ ap (bindO (p1 s x)) (fun-ext (λ y. commute a b (fr .2) y))
-    ∙ sym (bind-assoc (p1 s x) (pruns b) (λ y. pruns a y)) ∙ ap (λ (o : Option Item). bindO o (λ y. pruns a y)) (commute-one s b (fr .0) (fr .1) x)
+    ∙ sym (bind-assoc (p1 s x) (pruns b) (λ y. pruns a y))
+    ∙ ap (λ (o : Option Item). bindO o (λ y. pruns a y)) (commute-one s b (fr .0) (fr .1) x)
     ∙ bind-assoc (pruns b x) (p1 s) (λ y. pruns a y)
 
 -- split: steps that drop nothing and touch no variable are a function of the item
@@ -349,7 +318,8 @@ one-total (stamp k p) x v h = off h
 runs-total : (ss : List Step) (x : Item) (v : ℕ → ℤ) → total ss ≡ true → runs ss x v ≡ (some (image ss x), v)
 unfolding runs total image
 runs-total [] x v h = refl
-runs-total (s ∷ ss) x v h = rw (one-total s x v (and-left (total1 s) (total ss) h)) (runs-total ss (image1 s x) v (and-right (total1 s) (total ss) h))
+runs-total (s ∷ ss) x v h =
+    rw (one-total s x v (and-left (total1 s) (total ss) h)) (runs-total ss (image1 s x) v (and-right (total1 s) (total ss) h))
 
 pub lout-total : (ss : List Step) (v : ℕ → ℤ) (xs : List Item) → total ss ≡ true → lout ss v xs ≡ map (image ss) xs
 unfolding lout
@@ -367,32 +337,3 @@ total-names (s ∷ ss) k h = go s (and-left (total1 s) (total ss) h) (total-name
     go (copy p r) h ih = ih
     go (count k p) h ih = off h
     go (stamp k p) h ih = off h
-
--- the three equations of a split, for new contents H′ that hold on way j what is dealt, and behind its line that, mapped
-module _ (p o c d : ℕ) (os is : List ℕ) (ss : List Step) (H H′ : Whole) (u u′ : ℕ → ℤ) (t : total ss ≡ true) (same : length is ≡ length os)
-    (hp : H′ p ≡ H p) (ho : H′ o ≡ H o) (hd : (j : ℕ) → j < length os → H′ (getD os j 0) ≡ dealt (length os) j 0 (H p))
-    (hm : (j : ℕ) → j < length os → H′ (getD is j 0) ≡ map (image ss) (dealt (length os) j 0 (H p)))
-    (pos-ways : 0 < length os)
-    (uc : u′ c ≡ pos (turn (length os) 0 (H p))) (ud : u′ d ≡ pos (turn (length os) 0 (H p))) (e : Eq (line p o ss) H u) where
-  pub split-deal : Eq (deal c p os) H′ u′
-  unfolding Eq
-  split-deal = rw hp (hd, uc)
-
-  pub split-line : (j : ℕ) → j < length os → Eq (line (getD os j 0) (getD is j 0) ss) H′ u′
-  unfolding Eq
-  split-line j h = (hm j h ∙ ap (map (image ss)) (sym (hd j h)) ∙ sym (lout-total ss nought (H′ (getD os j 0)) t), λ k n. off (sym (total-names ss k t) ∙ n))
-
-  whole : H′ o ≡ map (image ss) (H p)
-  unfolding Eq
-  whole = ho ∙ e .0 ∙ lout-total ss nought (H p) t
-
-  pub split-gather : Eq (gather d o is) H′ u′
-  unfolding Eq
-  split-gather = rw (same, whole, turn-map (image ss) (length os) 0 (H p)) (
-    (λ j h. ([], append-nil (dealt (length os) j 0 (map (image ss) (H p))) ∙ at j h)),
-    at (turn (length os) 0 (H p)) (turn-lt (length os) 0 (H p) pos-ways),
-    ud,
-  )
-    where
-      at : (j : ℕ) → j < length os → dealt (length os) j 0 (map (image ss) (H p)) ≡ H′ (getD is j 0)
-      at j h = dealt-map (image ss) (length os) j 0 (H p) ∙ sym (hm j h)

@@ -1,14 +1,13 @@
 -- Demand 3 whole: none or many rewritings of a calm sheet.
 -- Assumes nothing.
-use mathlib.Core.Path.{_≡_, refl, ap, sym, _∙_, subst, fun-ext}
-use mathlib.Core.Bool.{Bool, true, false}
-use mathlib.Core.List.{List, [], _∷_, _++_, map}
-use mathlib.Core.Logic.{_≢_}
-use Prim.Native.Nat.{ℕ, zero, suc, pred, _+_, _≤_, _<_}
+use mathlib.Core.Path.{_≡_, _∙_}
+use mathlib.Core.Bool.{true}
+use mathlib.Core.List.{List, [], _∷_, _++_}
+use Prim.Native.Nat.{ℕ, suc, pred, _+_, _≤_, _<_}
 use native.Mathlib.Omega.{arith}
 use lib.Dec.{eqb}
-use lib.IntN.{ℤ, pos}
-use Rattle.theory.proofs.Runs.{Run, Rest, exec, fired, exec-run}
+use lib.IntN.{ℤ}
+use Rattle.theory.proofs.Runs.{Rest, exec, fired, exec-run}
 use Rattle.theory.proofs.Model.{State}
 use Rattle.theory.proofs.Steps.{Item, Step}
 use Rattle.theory.proofs.Equations.{Kind, line, Whole, nought, pure, total, Freed, commute}
@@ -19,18 +18,22 @@ use Rattle.theory.proofs.Sheets.{sheetOf, find}
 use Rattle.theory.proofs.Denote.{takesFrom}
 use Rattle.theory.proofs.Kahn.{sum, weight}
 use Rattle.theory.proofs.Orders.{fires}
-use Rattle.theory.proofs.FuseAcc.{old, new, fuse-ok, fuse-acc, held-new}
-use Rattle.theory.proofs.MoreAcc.{turned, reorder-ok, reorder-acc, held-same, whole, split, split-ok, split-acc, held-more}
+use Rattle.theory.proofs.FuseAcc.{new, fuse-ok, fuse-acc, held-new}
+use Rattle.theory.proofs.MoreAcc.{turned, reorder-ok, reorder-acc, held-same, split, split-ok, split-acc, held-more}
 
 -- a sheet: inputs, queues, variables and operators; and one made from another
 pub data Made (I : ℕ) : ℕ → ℕ → List Kind → ℕ → ℕ → List Kind → Type 0 where
   as-is : {Q V′ : ℕ} {ops : List Kind} → Made I Q V′ ops Q V′ ops
   fused : {Q V′ Q₂ V₂ : ℕ} {ops : List Kind} (p m o : ℕ) (a b : List Step) (pre mid post : List Kind)
-      → Made I Q V′ ops Q₂ V₂ (pre ++ (line p m a ∷ (mid ++ (line m o b ∷ post)))) → Made I Q V′ ops (pred Q₂) V₂ (new I Q₂ p m o a b pre mid post)
-  reordered : {Q V′ Q₂ V₂ : ℕ} {ops : List Kind} (p m o : ℕ) (a b : List Step) (pre mid post : List Kind) → pure a ≡ true → pure b ≡ true → Freed a b
-      → Made I Q V′ ops Q₂ V₂ (pre ++ (line p m a ∷ (mid ++ (line m o b ∷ post)))) → Made I Q V′ ops Q₂ V₂ (pre ++ (line p m b ∷ (mid ++ (line m o a ∷ post))))
+      → Made I Q V′ ops Q₂ V₂ (pre ++ (line p m a ∷ (mid ++ (line m o b ∷ post))))
+      → Made I Q V′ ops (pred Q₂) V₂ (new I Q₂ p m o a b pre mid post)
+  reordered : {Q V′ Q₂ V₂ : ℕ} {ops : List Kind} (p m o : ℕ) (a b : List Step) (pre mid post : List Kind) → pure a ≡ true
+      → pure b ≡ true → Freed a b
+      → Made I Q V′ ops Q₂ V₂ (pre ++ (line p m a ∷ (mid ++ (line m o b ∷ post))))
+      → Made I Q V′ ops Q₂ V₂ (pre ++ (line p m b ∷ (mid ++ (line m o a ∷ post))))
   splitted : {Q V′ Q₂ V₂ : ℕ} {ops : List Kind} (p o k : ℕ) (ss : List Step) (pre post : List Kind) → 0 < k → total ss ≡ true
-      → Made I Q V′ ops Q₂ V₂ (pre ++ (line p o ss ∷ post)) → Made I Q V′ ops (Q₂ + (k + k)) (suc (suc V₂)) (split I Q₂ V₂ p o k ss pre post)
+      → Made I Q V′ ops Q₂ V₂ (pre ++ (line p o ss ∷ post))
+      → Made I Q V′ ops (Q₂ + (k + k)) (suc (suc V₂)) (split I Q₂ V₂ p o k ss pre post)
 
 pub record Calm (I Q V′ : ℕ) (ops : List Kind) : Type 0 where
   pub acc : Acc I Q ops
@@ -52,7 +55,9 @@ made {I} (fused {Q} {V′} {Q₂} {V₂} {ops} p m o a b pre mid post x) c =
         vars = λ i h. omega (arith, held-new I Q₂ p m o a b pre mid post q i, r .calm .vars i h);
       };
       more = r .more;
-      refines = refines-more I Q V′ Q₂ V₂ (pred Q₂) ops (pre ++ (line p m a ∷ (mid ++ (line m o b ∷ post)))) (new I Q₂ p m o a b pre mid post) (r .more) (r .refines) (fuse-ok I Q₂ p m o a b pre mid post q V₂);
+      refines =
+          refines-more I Q V′ Q₂ V₂ (pred Q₂) ops (pre ++ (line p m a ∷ (mid ++ (line m o b ∷ post))))
+          (new I Q₂ p m o a b pre mid post) (r .more) (r .refines) (fuse-ok I Q₂ p m o a b pre mid post q V₂);
     }
 made {I} (reordered {Q} {V′} {Q₂} {V₂} {ops} p m o a b pre mid post pa pb f x) c =
     let r = made x c in
@@ -63,7 +68,9 @@ made {I} (reordered {Q} {V′} {Q₂} {V₂} {ops} p m o a b pre mid post pa pb 
         vars = λ i h. held-same I Q₂ p m o a b pre mid post q i ∙ r .calm .vars i h;
       };
       more = r .more;
-      refines = refines-more I Q V′ Q₂ V₂ Q₂ ops (pre ++ (line p m a ∷ (mid ++ (line m o b ∷ post)))) (turned I Q₂ p m o a b pre mid post q) (r .more) (r .refines)
+      refines =
+          refines-more I Q V′ Q₂ V₂ Q₂ ops (pre ++ (line p m a ∷ (mid ++ (line m o b ∷ post)))) (turned I Q₂ p m o a b pre mid post q)
+          (r .more) (r .refines)
           (reorder-ok I Q₂ p m o a b pre mid post q V₂ pa pb (commute a b f));
     }
 made {I} (splitted {Q} {V′} {Q₂} {V₂} {ops} p o k ss pre post hk t x) c =
@@ -73,11 +80,14 @@ made {I} (splitted {Q} {V′} {Q₂} {V₂} {ops} p o k ss pre post hk t x) c =
     record {
       calm = record {
         acc = split-acc I Q₂ V₂ p o k ss pre post q hk t hv;
-        vars = λ i h. let e : bit (eqb i V₂) + bit (eqb i (suc V₂)) ≡ 0 = rw (F-eqb i V₂ (λ e. omega arith), F-eqb i (suc V₂) (λ e. omega arith)) in
+        vars = λ i h.
+            let e : bit (eqb i V₂) + bit (eqb i (suc V₂)) ≡ 0 = rw (F-eqb i V₂ (λ e. omega arith), F-eqb i (suc V₂) (λ e. omega arith)) in
             omega (arith, held-more I Q₂ V₂ p o k ss pre post q hk t hv i, hv i (omega arith));
       };
       more = omega (arith, r .more);
-      refines = refines-more I Q V′ Q₂ V₂ (Q₂ + (k + k)) ops (pre ++ (line p o ss ∷ post)) (split I Q₂ V₂ p o k ss pre post) (r .more) (r .refines) (split-ok I Q₂ V₂ p o k ss pre post q hk t hv);
+      refines =
+          refines-more I Q V′ Q₂ V₂ (Q₂ + (k + k)) ops (pre ++ (line p o ss ∷ post)) (split I Q₂ V₂ p o k ss pre post) (r .more)
+          (r .refines) (split-ok I Q₂ V₂ p o k ss pre post q hk t hv);
     }
 
 -- the items of the outputs by number, and the first variables
@@ -96,10 +106,14 @@ unfolding sheetOf
 demand-3 {I} {Q} {V′} {Q₂} {V₂} {ops} {ops₂} c x feed z W W₂ w w₂ is js r r₂ =
     let m = made x c in
     demand-three I Q V′ Q₂ ops ops₂ (accepted I Q ops (c .acc)) (accepted I Q₂ ops₂ (m .calm .acc)) (m .refines) feed z W W₂ w w₂
-    (exec (fires ops) is (begin feed)) (exec (fires ops₂) js (begin feed)) (exec-run (fires ops) is (begin feed)) r (exec-run (fires ops₂) js (begin feed)) r₂
+    (exec (fires ops) is (begin feed)) (exec (fires ops₂) js (begin feed)) (exec-run (fires ops) is (begin feed)) r
+    (exec-run (fires ops₂) js (begin feed)) r₂
 
 -- 2026-10: how often anything fires, from the fed, fresh state
-pub firings-le : {I Q V′ : ℕ} {ops : List Kind} → Calm I Q V′ ops → (feed : Whole) → ((q : ℕ) → I ≤ q → feed q ≡ []) → (W : ℕ → ℕ) → Counted ops feed W
-    → (is : List ℕ) → Rest (fires ops) (exec (fires ops) is (begin feed)) → fired (fires ops) is (begin feed) ≤ sum Q (λ p. weight (find (λ κ. takesFrom κ p) ops) (W p))
+pub firings-le : {I Q V′ : ℕ} {ops : List Kind} → Calm I Q V′ ops → (feed : Whole) → ((q : ℕ) → I ≤ q → feed q ≡ []) → (W : ℕ → ℕ)
+    → Counted ops feed W
+    → (is : List ℕ) → Rest (fires ops) (exec (fires ops) is (begin feed))
+    → fired (fires ops) is (begin feed) ≤ sum Q (λ p. weight (find (λ κ. takesFrom κ p) ops) (W p))
 unfolding sheetOf
-firings-le {I} {Q} {V′} {ops} c feed z W w is r = rests I Q ops (accepted I Q ops (c .acc)) feed W w z (exec (fires ops) is (begin feed)) (exec-run (fires ops) is (begin feed)) r .fired
+firings-le {I} {Q} {V′} {ops} c feed z W w is r =
+    rests I Q ops (accepted I Q ops (c .acc)) feed W w z (exec (fires ops) is (begin feed)) (exec-run (fires ops) is (begin feed)) r .fired

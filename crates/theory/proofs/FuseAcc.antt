@@ -1,23 +1,22 @@
 -- A fused sheet is accepted and calm, and what fuse needs follows from the old sheet's acceptance.
 -- Assumes nothing.
-use mathlib.Core.Path.{_≡_, refl, ap, sym, _∙_, subst, subst₂, fun-ext}
-use mathlib.Core.Bool.{Bool, true, false, cond, _&&_, _||_}
-use mathlib.Core.Logic.{_⊎_, inl, inr, _≢_}
+use mathlib.Core.Path.{_≡_, refl, ap, sym, _∙_}
+use mathlib.Core.Bool.{Bool, true, false, cond, _||_}
+use mathlib.Core.Logic.{_≢_}
 use mathlib.Core.List.{List, [], _∷_, _++_, map}
-use Prim.Native.Nat.{ℕ, zero, suc, pred, _+_, _*_, _-_, _≤_, _<_}
+use Prim.Native.Nat.{ℕ, suc, pred, _+_, _≤_, _<_}
 use native.Mathlib.Omega.{arith}
 use lib.ListN.{length, getD, length-map}
 use lib.Dec.{eqb, ltb}
-use lib.IntN.{ℤ, pos}
-use borrow.Author.Tests.{eqb-true, eqb-false, ltb-true, ltb-false}
+use borrow.Author.Tests.{ltb-false}
 use Rattle.theory.proofs.Trace.{eqb-same}
-use Rattle.theory.proofs.Steps.{Item, Step, names, lineOp}
-use Rattle.theory.proofs.Deal.{dealOp, gatherOp}
+use Rattle.theory.proofs.Steps.{Step, names, lineOp}
 use Rattle.theory.proofs.Equations.{Kind, line, latest, double, deal, gather, Queues, Ways, ren, names-append}
-use Rattle.theory.proofs.Denote.{denote, latestOp, doubleOp}
-use Rattle.theory.proofs.Sheets.{Accepted, holds, blank}
-use Rattle.theory.proofs.Rewrites.{All, none-left, also, first, rest, all-at, all-join, all-left, all-right, all-map, all-both, Keeps, down, up, up-ne, eqb-down, T-ltb, F-ltb, F-eqb}
-use Rattle.theory.proofs.Accept.{bit, bit-one, one-bit, tot, tot-append, tot-at, occ, givesN, readsN, holdsN, Ord, ord-end, ord-on, ord-head, ord-rest, Acc, accepted, not-input}
+use Rattle.theory.proofs.Denote.{denote}
+use Rattle.theory.proofs.Rewrites.{All, none-left, also, first, rest, all-join, all-left, all-right, all-map, Keeps, down, up}
+use Rattle.theory.proofs.Rewrites.{up-ne, eqb-down, F-ltb, F-eqb}
+use Rattle.theory.proofs.Accept.{bit, bit-one, tot, tot-append, tot-at, occ, givesN, readsN, holdsN, Ord, ord-end, ord-on}
+use Rattle.theory.proofs.Accept.{ord-head, ord-rest, Acc, accepted, not-input}
 use Rattle.theory.proofs.Demand.{Refines}
 use Rattle.theory.proofs.Refine.{fuse-refines, holds-ren}
 
@@ -63,7 +62,8 @@ reads-down m q (double p o o′) k = ap bit (eqb-down m p q (k .1 .0))
 reads-down m q (deal c p os) k = ap bit (eqb-down m p q (k .1 .0))
 reads-down m q (gather c o is) k = occ-down m is q (k .1 .1)
 
-tot-ren : (m : ℕ) (f g : Kind → ℕ) → ((κ : Kind) → Keeps m κ → f (ren (down m) κ) ≡ g κ) → {κs : List Kind} → All (Keeps m) κs → tot f (map (ren (down m)) κs) ≡ tot g κs
+tot-ren : (m : ℕ) (f g : Kind → ℕ) → ((κ : Kind) → Keeps m κ → f (ren (down m) κ) ≡ g κ) → {κs : List Kind} → All (Keeps m) κs
+    → tot f (map (ren (down m)) κs) ≡ tot g κs
 unfolding tot
 tot-ren m f g h none-left = refl
 tot-ren m f g h (also {x = κ} k a) = rw (h κ k, tot-ren m f g h a)
@@ -79,7 +79,8 @@ ways-ren m (gather c o is) w = rw (length-map is (down m)) w
 ord-ren : (m : ℕ) {κs : List Kind} → All (Keeps m) κs → Ord κs → Ord (map (ren (down m)) κs)
 ord-ren m none-left o = ord-end
 ord-ren m (also {x = κ} {xs = κs} k a) o = ord-on {κ = ren (down m) κ} {κs = map (ren (down m)) κs}
-    (λ q h. rw (gives-down m q κ k, tot-ren m (givesN q) (givesN (up m q)) (λ κ k. gives-down m q κ k) a) (ord-head o (up m q) (rw (reads-down m q κ k) at h)))
+    (λ q h. rw (gives-down m q κ k, tot-ren m (givesN q) (givesN (up m q)) (λ κ k. gives-down m q κ k) a)
+    (ord-head o (up m q) (rw (reads-down m q κ k) at h)))
     (ord-ren m a (ord-rest o))
 
 pub ord-right : (xs ys : List Kind) → Ord (xs ++ ys) → Ord ys
@@ -110,11 +111,14 @@ module _ (I Q p m o : ℕ) (a b : List Step) (pre mid post : List Kind) where
   -- the sums of the two, taken apart
   pub old-tot : (f : Kind → ℕ) → tot f old ≡ tot f pre + (f (line p m a) + (tot f mid + (f (line m o b) + tot f post)))
   unfolding tot
-  old-tot f = tot-append f pre (line p m a ∷ (mid ++ (line m o b ∷ post))) ∙ ap (λ (n : ℕ). tot f pre + (f (line p m a) + n)) (tot-append f mid (line m o b ∷ post))
+  old-tot f =
+      tot-append f pre (line p m a ∷ (mid ++ (line m o b ∷ post)))
+      ∙ ap (λ (n : ℕ). tot f pre + (f (line p m a) + n)) (tot-append f mid (line m o b ∷ post))
 
   bare-tot : (f : Kind → ℕ) → tot f bare ≡ tot f pre + (f (line p o (a ++ b)) + (tot f mid + tot f post))
   unfolding tot
-  bare-tot f = tot-append f pre (line p o (a ++ b) ∷ (mid ++ post)) ∙ ap (λ (n : ℕ). tot f pre + (f (line p o (a ++ b)) + n)) (tot-append f mid post)
+  bare-tot f =
+      tot-append f pre (line p o (a ++ b) ∷ (mid ++ post)) ∙ ap (λ (n : ℕ). tot f pre + (f (line p o (a ++ b)) + n)) (tot-append f mid post)
 
   module _ (acc : Acc I Q old) where
     pub ord-a : Ord (line p m a ∷ (mid ++ (line m o b ∷ post)))
@@ -177,7 +181,9 @@ module _ (I Q p m o : ℕ) (a b : List Step) (pre mid post : List Kind) where
 
     -- fuse refines, from acceptance alone
     pub fuse-ok : (V′ : ℕ) → Refines I Q V′ old (pred Q) new
-    fuse-ok V′ = fuse-refines I Q V′ p m o a b pre mid post (λ k e. apart (names a k) (names b k) (both-held k) e) (λ k e. apart (names b k) (names a k) (omega (arith, both-held k)) e)
+    fuse-ok V′ =
+        fuse-refines I Q V′ p m o a b pre mid post (λ k e. apart (names a k) (names b k) (both-held k) e)
+        (λ k e. apart (names b k) (names a k) (omega (arith, both-held k)) e)
         p≢m o≢m (m-in .0) (m-in .1) keeps-pre keeps-mid keeps-post
 
     keeps-bare : All (Keeps m) bare
@@ -189,13 +195,15 @@ module _ (I Q p m o : ℕ) (a b : List Step) (pre mid post : List Kind) where
     unfolding givesN
     gives-new q =
         let z : bit (eqb (up m q) m) ≡ 0 = rw (F-eqb (up m q) m (up-ne m q)) in
-        tot-ren m (givesN q) (givesN (up m q)) (λ κ k. gives-down m q κ k) keeps-bare ∙ omega (arith, old-tot (givesN (up m q)), bare-tot (givesN (up m q)))
+        tot-ren m (givesN q) (givesN (up m q)) (λ κ k. gives-down m q κ k) keeps-bare
+        ∙ omega (arith, old-tot (givesN (up m q)), bare-tot (givesN (up m q)))
 
     reads-new : (q : ℕ) → tot (readsN q) new ≡ tot (readsN (up m q)) old
     unfolding readsN
     reads-new q =
         let z : bit (eqb (up m q) m) ≡ 0 = rw (F-eqb (up m q) m (up-ne m q)) in
-        tot-ren m (readsN q) (readsN (up m q)) (λ κ k. reads-down m q κ k) keeps-bare ∙ omega (arith, old-tot (readsN (up m q)), bare-tot (readsN (up m q)))
+        tot-ren m (readsN q) (readsN (up m q)) (λ κ k. reads-down m q κ k) keeps-bare
+        ∙ omega (arith, old-tot (readsN (up m q)), bare-tot (readsN (up m q)))
 
     pub held-new : (k : ℕ) → tot (holdsN k) new ≤ tot (holdsN k) old
     unfolding denote lineOp
@@ -206,8 +214,12 @@ module _ (I Q p m o : ℕ) (a b : List Step) (pre mid post : List Kind) where
 
     ord-bare : Ord bare
     unfolding givesN readsN tot
-    ord-bare = ord-swap pre (line p m a ∷ (mid ++ (line m o b ∷ post))) (line p o (a ++ b) ∷ (mid ++ post)) (λ q. omega (arith, tot-append (givesN q) mid post, tot-append (givesN q) mid (line m o b ∷ post))) (acc .ord)
-        (ord-on {κ = line p o (a ++ b)} {κs = mid ++ post} (λ q h. omega (arith, tot-append (givesN q) mid post, tot-append (givesN q) mid (line m o b ∷ post), ord-head ord-a q h)) (ord-swap mid (line m o b ∷ post) post (λ q. omega arith) (ord-rest ord-a) (ord-rest ord-b)))
+    ord-bare =
+        ord-swap pre (line p m a ∷ (mid ++ (line m o b ∷ post))) (line p o (a ++ b) ∷ (mid ++ post))
+        (λ q. omega (arith, tot-append (givesN q) mid post, tot-append (givesN q) mid (line m o b ∷ post))) (acc .ord)
+        (ord-on {κ = line p o (a ++ b)} {κs = mid ++ post}
+        (λ q h. omega (arith, tot-append (givesN q) mid post, tot-append (givesN q) mid (line m o b ∷ post), ord-head ord-a q h))
+        (ord-swap mid (line m o b ∷ post) post (λ q. omega arith) (ord-rest ord-a) (ord-rest ord-b)))
 
     up-lt : (q : ℕ) → q < pred Q → up m q < Q
     up-lt q h = go (ltb q m)

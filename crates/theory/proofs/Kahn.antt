@@ -1,19 +1,20 @@
 -- What any order of firings keeps: each operator has done what it does on its own to what it has taken.
 -- Assumes nothing.
-use mathlib.Core.Path.{_≡_, refl, ap, sym, _∙_, subst, fun-ext}
+use mathlib.Core.Path.{_≡_, refl, ap, sym, _∙_, subst}
 use mathlib.Core.Bool.{Bool, true, false, cond}
 use mathlib.Core.Option.{Option, some, none}
-use mathlib.Core.Logic.{_⊎_, inl, inr, _≢_}
-use mathlib.Core.List.{List, [], _∷_, _++_, head?, append-assoc, append-nil}
+use mathlib.Core.Logic.{_≢_}
+use mathlib.Core.List.{List, [], _∷_, _++_, head?, append-nil}
 use Prim.Native.Nat.{ℕ, zero, suc, _+_, _≤_, _<_}
 use native.Mathlib.Omega.{arith}
 use native.Mathlib.Nat.{zero-add}
 use lib.ListN.{length, length-append}
-use lib.Dec.{eqb, ltb, T, lt→ltb}
+use lib.Dec.{eqb, ltb, lt→ltb}
 use borrow.Author.Tests.{eqb-true, eqb-false}
 use Rattle.theory.proofs.Runs.{Run, stop, fire, Rest}
-use Rattle.theory.proofs.Model.{T-true, State, Op, Vars, Agree, Local, Apart, Can, push, pop, after, fireOp, fire-can, can-fire, room, fits, step, stepAt}
-use Rattle.theory.proofs.Trace.{eqb-same, mark, cons?, shift, tv, tput, ttake, tv-snoc, tput-snoc, ttake-snoc, Fits, Ends, one-trace, OpSol}
+use Rattle.theory.proofs.Model.{T-true, State, Op, Vars, Agree, Local, Can, push, pop, after, fire-can, can-fire, room, fits, step}
+use Rattle.theory.proofs.Model.{stepAt}
+use Rattle.theory.proofs.Trace.{eqb-same, mark, shift, tv, tput, ttake, tv-snoc, tput-snoc, ttake-snoc, Ends, one-trace, OpSol}
 
 -- a calm sheet, as far as the theory sees it
 pub record Sheet (Item Val : Type 0) : Type 0 where
@@ -57,27 +58,33 @@ unfolding sum
 sum-le zero f g h = omega arith
 sum-le (suc n) f g h = omega (arith, h n, sum-le n f g h)
 
-sum-off : {Item : Type 0} (n p : ℕ) (h : ℕ → List Item) (x : Item) → n ≤ p → sum n (λ k. length (push (mark (eqb k p) x) (h k))) ≡ sum n (λ k. length (h k))
+sum-off : {Item : Type 0} (n p : ℕ) (h : ℕ → List Item) (x : Item) → n ≤ p
+    → sum n (λ k. length (push (mark (eqb k p) x) (h k))) ≡ sum n (λ k. length (h k))
 unfolding sum
 sum-off zero p h x l = refl
-sum-off (suc n) p h x l = rw (not-true (eqb n p) (λ e. omega (arith, eqb-true n p e))) (ap (λ (m : ℕ). length (h n) + m) (sum-off n p h x (omega arith)))
+sum-off (suc n) p h x l =
+    rw (not-true (eqb n p) (λ e. omega (arith, eqb-true n p e))) (ap (λ (m : ℕ). length (h n) + m) (sum-off n p h x (omega arith)))
 
-sum-bump : {Item : Type 0} (n p : ℕ) (h : ℕ → List Item) (x : Item) → p < n → sum n (λ k. length (push (mark (eqb k p) x) (h k))) ≡ suc (sum n (λ k. length (h k)))
+sum-bump : {Item : Type 0} (n p : ℕ) (h : ℕ → List Item) (x : Item) → p < n
+    → sum n (λ k. length (push (mark (eqb k p) x) (h k))) ≡ suc (sum n (λ k. length (h k)))
 unfolding sum
 sum-bump zero p h x l = absurd (omega arith)
 sum-bump (suc n) p h x l = go (eqb n p) refl (λ k. sum-bump n p h x k)
   where
     go : (b : Bool) → eqb n p ≡ b → (p < n → sum n (λ k. length (push (mark (eqb k p) x) (h k))) ≡ suc (sum n (λ k. length (h k))))
-        → length (push (mark b x) (h n)) + sum n (λ k. length (push (mark (eqb k p) x) (h k))) ≡ suc (length (h n) + sum n (λ k. length (h k)))
+        → length (push (mark b x) (h n)) + sum n (λ k. length (push (mark (eqb k p) x) (h k))) ≡ suc
+        (length (h n) + sum n (λ k. length (h k)))
     go true e ih = rw (length-append (h n) (x ∷ [])) (omega (arith, sum-off n p h x (omega (arith, eqb-true n p e))))
     go false e ih = omega (arith, ih (lt-of n p l (eqb-false n p e)))
 
-len-mark : {Item : Type 0} (f : Bool) (x : Item) (h l : List Item) → (f ≡ true → head? l ≡ some x) → length (push (mark f x) h) ≤ length (h ++ l)
+len-mark : {Item : Type 0} (f : Bool) (x : Item) (h l : List Item) → (f ≡ true → head? l ≡ some x)
+    → length (push (mark f x) h) ≤ length (h ++ l)
 len-mark true x h [] e = let k = e refl in let z : _≡_ {A = ℕ} 0 1 = cc in absurd (omega arith)
 len-mark true x h (y ∷ l) e = simp length-append (omega arith)
 len-mark false x h l e = simp length-append (omega arith)
 
-room-all : {Item : Type 0} (bd n : ℕ) (p : ℕ → Option Item) (q : ℕ → List Item) → ((k : ℕ) → fits bd (p k) (q k) ≡ true) → room bd n p q ≡ true
+room-all : {Item : Type 0} (bd n : ℕ) (p : ℕ → Option Item) (q : ℕ → List Item) → ((k : ℕ) → fits bd (p k) (q k) ≡ true)
+    → room bd n p q ≡ true
 unfolding room
 room-all bd zero p q h = refl
 room-all bd (suc n) p q h = rw (h n) (room-all bd n p q h)
@@ -102,7 +109,8 @@ module _ {Item Val : Type 0} (S : Sheet Item Val) (feed : ℕ → List Item) (v�
 
   module _ (bd n : ℕ) where
     -- one firing
-    keep : (m : ℕ) (s : State Item Val) (p i : ℕ) (x : Item) → S .reader p ≡ some i → Can bd n (S .op i) p x s → Inv m s → Inv (suc m) (after (S .op i) p x s)
+    keep : (m : ℕ) (s : State Item Val) (p i : ℕ) (x : Item) → S .reader p ≡ some i → Can bd n (S .op i) p x s → Inv m s
+        → Inv (suc m) (after (S .op i) p x s)
     keep m s p i x hr c v = record {
       had = λ k. push (mark (eqb k p) x) (v .had k);
       count = ap suc (v .count) ∙ sym (sum-bump (S .width) p (v .had) x (S .read-lt p i hr));
@@ -127,7 +135,8 @@ module _ {Item Val : Type 0} (S : Sheet Item Val) (feed : ℕ → List Item) (v�
         here : o .sel w ≡ p
         here = sym (S .loc i .sel-local (s .var) w same) ∙ eqb-true (o .sel (s .var)) p (c .at)
 
-        moved : (q : ℕ) → push (mark (eqb q p) x) (v .had q) ++ push (o .puts x (s .var) q) (pop (eqb q p) (s .queue q)) ≡ push (o .puts x (s .var) q) (v .had q ++ s .queue q)
+        moved : (q : ℕ) → push (mark (eqb q p) x) (v .had q) ++ push (o .puts x (s .var) q) (pop (eqb q p) (s .queue q)) ≡ push
+            (o .puts x (s .var) q) (v .had q ++ s .queue q)
         moved q = shift (eqb q p) (o .puts x (s .var) q) (v .had q) (s .queue q) x (λ e. rw (eqb-true q p e) (c .head))
 
         elsewhere : (q : ℕ) → (S .definer q ≡ some i → ⊥) → o .puts x (s .var) q ≡ none
@@ -141,17 +150,23 @@ module _ {Item Val : Type 0} (S : Sheet Item Val) (feed : ℕ → List Item) (v�
 
         takes : (k j : ℕ) → S .reader k ≡ some j → (b : Bool) → eqb j i ≡ b
             → push (mark (eqb k p) x) (v .had k) ≡ ttake (S .op j) v₀ k (cond b (v .tr i ++ (x ∷ [])) (v .tr j))
-        takes k j hk true e = let h = eqb-true j i e in rw (h, ttake-snoc (S .op i) v₀ k (v .tr i) x, here) (ap (push (mark (eqb k p) x)) (v .takes k i (cc)))
-        takes k j hk false e = let z : eqb k p ≡ false = not-true (eqb k p) (λ h. let k=p = eqb-true k p h in eqb-false j i e (cc)) in rw z (v .takes k j hk)
+        takes k j hk true e =
+            let h = eqb-true j i e in rw (h, ttake-snoc (S .op i) v₀ k (v .tr i) x, here) (ap (push (mark (eqb k p) x)) (v .takes k i (cc)))
+        takes k j hk false e =
+            let z : eqb k p ≡ false = not-true (eqb k p) (λ h. let k=p = eqb-true k p h in eqb-false j i e (cc)) in rw z (v .takes k j hk)
 
         puts : (q j : ℕ) → S .definer q ≡ some j → (b : Bool) → eqb j i ≡ b
             → push (o .puts x (s .var) q) (v .had q ++ s .queue q) ≡ tput (S .op j) v₀ q (cond b (v .tr i ++ (x ∷ [])) (v .tr j))
-        puts q j hd true e = let h = eqb-true j i e in rw (h, tput-snoc (S .op i) v₀ q (v .tr i) x, S .loc i .puts-local x (s .var) w same q) (ap (push (o .puts x w q)) (v .puts q i (cc)))
+        puts q j hd true e =
+            let h = eqb-true j i e in
+            rw (h, tput-snoc (S .op i) v₀ q (v .tr i) x, S .loc i .puts-local x (s .var) w same q)
+            (ap (push (o .puts x w q)) (v .puts q i (cc)))
         puts q j hd false e = rw (elsewhere q (λ h. eqb-false j i e (cc))) (v .puts q j hd)
 
         vars : (k j : ℕ) → S .op j .own k ≡ true → (b : Bool) → eqb j i ≡ b
             → o .next x (s .var) k ≡ tv (S .op j) v₀ (cond b (v .tr i ++ (x ∷ [])) (v .tr j)) k
-        vars k j ho true e = let h = eqb-true j i e in rw (h, tv-snoc (S .op i) v₀ (v .tr i) x) (S .loc i .next-local x (s .var) w same k (rw h at ho))
+        vars k j ho true e =
+            let h = eqb-true j i e in rw (h, tv-snoc (S .op i) v₀ (v .tr i) x) (S .loc i .next-local x (s .var) w same k (rw h at ho))
         vars k j ho false e = S .loc i .next-frame x (s .var) k (S .calm j i e k ho) ∙ v .vars k j ho
 
     inv-step : (m : ℕ) (s t : State Item Val) (p : ℕ) → step bd n (S .reader) (S .op) p s ≡ some t → Inv m s → Inv (suc m) t
@@ -175,16 +190,19 @@ module _ {Item Val : Type 0} (S : Sheet Item Val) (feed : ℕ → List Item) (v�
         let y = b .each i hs in
         one-trace (S .op i) (λ p. S .reader p ≡ some i) (S .sel-in i hs) v₀ H (x .tr) (y .tr)
         (x .takes) (x .ends) (λ p r. rw (same-queue p r (λ j hj hsj. same-trace m j hj hsj)) (y .takes p r))
-        (y .ends ∙ sym (same-queue (S .op i .sel (tv (S .op i) v₀ (y .tr))) (S .sel-in i hs (tv (S .op i) v₀ (y .tr))) (λ j hj hsj. same-trace m j hj hsj)))
+        (y .ends ∙ sym (same-queue (S .op i .sel (tv (S .op i) v₀ (y .tr))) (S .sel-in i hs (tv (S .op i) v₀ (y .tr)))
+        (λ j hj hsj. same-trace m j hj hsj)))
       where
-        same-queue : (p : ℕ) → S .reader p ≡ some i → ((j : ℕ) → j < m → (hs : j < S .size) → a .each j hs .tr ≡ b .each j hs .tr) → H p ≡ H′ p
+        same-queue : (p : ℕ) → S .reader p ≡ some i → ((j : ℕ) → j < m → (hs : j < S .size) → a .each j hs .tr ≡ b .each j hs .tr)
+            → H p ≡ H′ p
         same-queue p hr ih = go (S .definer p) refl
           where
             go : (o : Option ℕ) → S .definer p ≡ o → H p ≡ H′ p
             go none e = a .fixed p (S .read-lt p i hr) e ∙ sym (b .fixed p (S .read-lt p i hr) e)
             go (some j) e =
                 let hs = S .def-lt p j e in
-                a .each j hs .puts p (S .def-outs p j e) ∙ ap (tput (S .op j) v₀ p) (ih j (omega (arith, S .earlier p i j hr e)) hs) ∙ sym (b .each j hs .puts p (S .def-outs p j e))
+                a .each j hs .puts p (S .def-outs p j e) ∙ ap (tput (S .op j) v₀ p) (ih j (omega (arith, S .earlier p i j hr e)) hs)
+                ∙ sym (b .each j hs .puts p (S .def-outs p j e))
 
     pub same-history : (q : ℕ) → q < S .width → H q ≡ H′ q
     same-history q l = go (S .definer q) refl
@@ -193,7 +211,8 @@ module _ {Item Val : Type 0} (S : Sheet Item Val) (feed : ℕ → List Item) (v�
         go none e = a .fixed q l e ∙ sym (b .fixed q l e)
         go (some j) e =
             let hs = S .def-lt q j e in
-            a .each j hs .puts q (S .def-outs q j e) ∙ ap (tput (S .op j) v₀ q) (same-trace (S .size) j hs hs) ∙ sym (b .each j hs .puts q (S .def-outs q j e))
+            a .each j hs .puts q (S .def-outs q j e) ∙ ap (tput (S .op j) v₀ q) (same-trace (S .size) j hs hs)
+            ∙ sym (b .each j hs .puts q (S .def-outs q j e))
 
     pub same-vars : (k i : ℕ) → S .op i .own k ≡ true → U k ≡ U′ k
     same-vars k i h =
@@ -220,9 +239,11 @@ module _ {Item Val : Type 0} (S : Sheet Item Val) (feed : ℕ → List Item) (v�
 
     hist-le-below : (m q i : ℕ) → i < m → S .definer q ≡ some i → length (hist s v q) ≤ W q
     hist-le-below zero q i h e = absurd (omega arith)
-    hist-le-below (suc m) q i h e = rw (v .puts q i e) (w .grow i (v .tr i) (λ p hr. each p hr (S .definer p) refl (λ r j hj ej. hist-le-below m r j hj ej)) q e)
+    hist-le-below (suc m) q i h e =
+        rw (v .puts q i e) (w .grow i (v .tr i) (λ p hr. each p hr (S .definer p) refl (λ r j hj ej. hist-le-below m r j hj ej)) q e)
       where
-        each : (p : ℕ) → S .reader p ≡ some i → (o : Option ℕ) → S .definer p ≡ o → ((r j : ℕ) → j < m → S .definer r ≡ some j → length (hist s v r) ≤ W r)
+        each : (p : ℕ) → S .reader p ≡ some i → (o : Option ℕ) → S .definer p ≡ o
+            → ((r j : ℕ) → j < m → S .definer r ≡ some j → length (hist s v r) ≤ W r)
             → length (ttake (S .op i) v₀ p (v .tr i)) ≤ W p
         each p hr none e ih = rw (← (v .takes p i hr)) (omega (arith, had-le p, w .fed p e, ap length (v .fixed p e)))
         each p hr (some j) e ih = rw (← (v .takes p i hr)) (omega (arith, had-le p, ih p j (omega (arith, S .earlier p i j hr e)) e))
@@ -254,7 +275,8 @@ module _ {Item Val : Type 0} (S : Sheet Item Val) (feed : ℕ → List Item) (v�
         taken : (r : ℕ) → S .reader r ≡ some i → length (ttake o v₀ r next) ≤ W r
         taken r hr =
             let here : o .sel u ≡ p = sym (S .loc i .sel-local (s .var) u same) ∙ hs in
-            let l : length (push (mark (eqb r p) x) (v .had r)) ≤ length (hist s v r) = len-mark (eqb r p) x (v .had r) (s .queue r) (λ e. rw (eqb-true r p e) hh) in
+            let l : length (push (mark (eqb r p) x) (v .had r)) ≤ length (hist s v r) = len-mark (eqb r p) x (v .had r) (s .queue r)
+            (λ e. rw (eqb-true r p e) hh) in
             let k = hist-le r in
             rw (ttake-snoc o v₀ r (v .tr i) x, ← (v .takes r i hr), here) (omega arith)
 
@@ -262,9 +284,11 @@ module _ {Item Val : Type 0} (S : Sheet Item Val) (feed : ℕ → List Item) (v�
         fit none ea eo = refl
         fit (some y) ea eo =
             let d = S .outs-def i q eo in
-            let g : length (push (some y) (tput o v₀ q (v .tr i))) ≤ W q = rw (tput-snoc o v₀ q (v .tr i) x, ea) at (w .grow i next taken q d) in
+            let g : length (push (some y) (tput o v₀ q (v .tr i))) ≤ W q = rw (tput-snoc o v₀ q (v .tr i) x, ea) at
+            (w .grow i next taken q d) in
             let g′ : length (hist s v q ++ (y ∷ [])) ≤ W q = rw (← (v .puts q i d)) at g in
-            T-true (ltb (length (s .queue q)) bd) (lt→ltb (length (s .queue q)) bd (omega (arith, held-le q, w .small q, simp length-append at g′)))
+            T-true (ltb (length (s .queue q)) bd) (lt→ltb (length (s .queue q)) bd
+            (omega (arith, held-le q, w .small q, simp length-append at g′)))
 
         go : (b : Bool) → o .outs q ≡ b → fits bd (o .puts x (s .var) q) (s .queue q) ≡ true
         go true e = rw (S .loc i .puts-local x (s .var) u same q) (fit (o .puts x u q) refl e)
@@ -308,7 +332,8 @@ module _ {Item Val : Type 0} (S : Sheet Item Val) (feed : ℕ → List Item) (v�
       where
         ends : (i : ℕ) → i < S .size → Ends (S .op i) v₀ (hist s v) (v .tr i)
         ends i hi =
-            let e : S .op i .sel (tv (S .op i) v₀ (v .tr i)) ≡ S .op i .sel (s .var) = sym (S .loc i .sel-local (s .var) (tv (S .op i) v₀ (v .tr i)) (λ k h. v .vars k i h)) in
+            let e : S .op i .sel (tv (S .op i) v₀ (v .tr i)) ≡ S .op i .sel (s .var) = sym
+            (S .loc i .sel-local (s .var) (tv (S .op i) v₀ (v .tr i)) (λ k h. v .vars k i h)) in
             let p = S .op i .sel (s .var) in
             rw e (rw (done rest i hi, append-nil (v .had p)) (sym (v .takes p i (S .sel-in i hi (s .var)))))
 
@@ -336,12 +361,16 @@ module _ {Item Val : Type 0} (S : Sheet Item Val) (feed : ℕ → List Item) (v�
   }
 
 -- any order of firings from the fed, fresh state, carried on until nothing can fire
-module _ {Item Val : Type 0} (S : Sheet Item Val) (feed : ℕ → List Item) (v₀ : Vars Item Val) (empty : (q i : ℕ) → S .definer q ≡ some i → feed q ≡ []) where
-  pub rested : (bd n : ℕ) (W : ℕ → ℕ) → Worst S feed v₀ bd W → {m : ℕ} (t : State Item Val) → Run (step bd n (S .reader) (S .op)) m (record { queue = feed; var = v₀ }) t
+module _ {Item Val : Type 0} (S : Sheet Item Val) (feed : ℕ → List Item) (v₀ : Vars Item Val)
+    (empty : (q i : ℕ) → S .definer q ≡ some i → feed q ≡ []) where
+  pub rested : (bd n : ℕ) (W : ℕ → ℕ) → Worst S feed v₀ bd W → {m : ℕ} (t : State Item Val)
+      → Run (step bd n (S .reader) (S .op)) m (record { queue = feed; var = v₀ }) t
       → Rest (step bd n (S .reader) (S .op)) t
-      → (H : ℕ → List Item) × Sol S feed v₀ H (t .var) × ((q : ℕ) → S .reader q ≡ none → t .queue q ≡ H q) × (m ≤ sum (S .width) (λ p. weight (S .reader p) (W p))) × ((k : ℕ) → ((i : ℕ) → S .op i .own k ≡ false) → t .var k ≡ v₀ k)
+      → (H : ℕ → List Item) × Sol S feed v₀ H (t .var) × ((q : ℕ) → S .reader q ≡ none → t .queue q ≡ H q) ×
+      (m ≤ sum (S .width) (λ p. weight (S .reader p) (W p))) × ((k : ℕ) → ((i : ℕ) → S .op i .own k ≡ false) → t .var k ≡ v₀ k)
   rested bd n W w {m} t run rest =
-      let v : Inv S feed v₀ m t = subst (λ (j : ℕ). Inv S feed v₀ j t) (omega arith) (inv-run S feed v₀ bd n run 0 (fresh S feed v₀ empty)) in (
+      let v : Inv S feed v₀ m t = subst (λ (j : ℕ). Inv S feed v₀ j t) (omega arith)
+      (inv-run S feed v₀ bd n run 0 (fresh S feed v₀ empty)) in (
         hist S feed v₀ t v,
         solved S feed v₀ bd n W w t v rest,
         (λ q e. ap (λ (l : List Item). l ++ t .queue q) (sym (v .unread q e))),

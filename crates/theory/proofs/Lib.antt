@@ -4,6 +4,7 @@ pub mod Trace
 pub mod Steps
 pub mod Deal
 pub mod Equations
+pub mod EquationLaws
 pub mod Denote
 pub mod Kahn
 pub mod Sheets

@@ -1,14 +1,14 @@
 -- Operators that touch only what is theirs, and the strong diamond of two of them.
 -- Assumes nothing.
-use mathlib.Core.Path.{_≡_, refl, ap, sym, _∙_, subst, fun-ext}
+use mathlib.Core.Path.{_≡_, refl, ap, sym, _∙_, fun-ext}
 use mathlib.Core.Bool.{Bool, true, false, _&&_}
 use mathlib.Core.Option.{Option, some, none}
-use mathlib.Core.Logic.{_⊎_, inl, inr, _≢_}
+use mathlib.Core.Logic.{_⊎_, inl, inr}
 use mathlib.Core.List.{List, [], _∷_, _++_, head?}
-use Prim.Native.Nat.{ℕ, zero, suc, _+_, _≤_, _<_}
+use Prim.Native.Nat.{ℕ, zero, suc, _≤_}
 use native.Mathlib.Omega.{arith}
 use lib.ListN.{length}
-use lib.Dec.{eqb, ltb, T, eqb-refl, lt→ltb}
+use lib.Dec.{eqb, ltb, T, lt→ltb}
 use Rattle.theory.proofs.Runs.{Diamond, Meet}
 use borrow.Author.Tests.{eqb-true, eqb-false, ltb-true}
 
@@ -83,18 +83,21 @@ module _ {Item Val : Type 0} where
     pub head : head? (s .queue p) ≡ some x
     pub free : room bd n (o .puts x (s .var)) (s .queue) ≡ true
 
-  pub can-fire : (bd n : ℕ) (o : Op Item Val) (p : ℕ) (x : Item) (s : State Item Val) → Can bd n o p x s → fireOp bd n o p s ≡ some (after o p x s)
+  pub can-fire : (bd n : ℕ) (o : Op Item Val) (p : ℕ) (x : Item) (s : State Item Val) → Can bd n o p x s
+      → fireOp bd n o p s ≡ some (after o p x s)
   unfolding fireOp
   can-fire bd n o p x s c = rw (c .at, c .head, c .free)
 
-  pub fire-can : (bd n : ℕ) (o : Op Item Val) (p : ℕ) (s t : State Item Val) → fireOp bd n o p s ≡ some t → (x : Item) × Can bd n o p x s × (t ≡ after o p x s)
+  pub fire-can : (bd n : ℕ) (o : Op Item Val) (p : ℕ) (s t : State Item Val) → fireOp bd n o p s ≡ some t
+      → (x : Item) × Can bd n o p x s × (t ≡ after o p x s)
   unfolding fireOp
   fire-can bd n o p s t e = go (eqb (o .sel (s .var)) p) refl (head? (s .queue p)) refl e
     where
       no-way : {A : Type 0} → none ≡ some t → A
       no-way z = let z : _≡_ {A = ℕ} 0 1 = cc in absurd (omega arith)
 
-      go₂ : (x : Item) (b : Bool) → room bd n (o .puts x (s .var)) (s .queue) ≡ b → eqb (o .sel (s .var)) p ≡ true → head? (s .queue p) ≡ some x
+      go₂ : (x : Item) (b : Bool) → room bd n (o .puts x (s .var)) (s .queue) ≡ b → eqb (o .sel (s .var)) p ≡ true
+          → head? (s .queue p) ≡ some x
           → pass b (after o p x s) ≡ some t → (x : Item) × Can bd n o p x s × (t ≡ after o p x s)
       go₂ x true f h₁ h₂ e = (x, record { at = h₁; head = h₂; free = f }, cc)
       go₂ x false f h₁ h₂ e = no-way e
@@ -149,15 +152,18 @@ module _ {Item : Type 0} where
   -- room stays where queues lose items, and where another puts only where this one does not
   fits-pop : (bd : ℕ) (o : Option Item) (b : Bool) (l : List Item) → fits bd o l ≡ true → fits bd o (pop b l) ≡ true
   fits-pop bd none b l h = refl
-  fits-pop bd (some x) b l h = T-true (ltb (length (pop b l)) bd) (lt→ltb (length (pop b l)) bd (omega (arith, ltb-true (length l) bd h, length-pop b l)))
+  fits-pop bd (some x) b l h =
+      T-true (ltb (length (pop b l)) bd) (lt→ltb (length (pop b l)) bd (omega (arith, ltb-true (length l) bd h, length-pop b l)))
 
-  room-keep : (bd n : ℕ) (p p′ : ℕ → Option Item) (q q′ : ℕ → List Item) → ((k : ℕ) → fits bd (p k) (q k) ≡ true → fits bd (p′ k) (q′ k) ≡ true)
+  room-keep : (bd n : ℕ) (p p′ : ℕ → Option Item) (q q′ : ℕ → List Item)
+      → ((k : ℕ) → fits bd (p k) (q k) ≡ true → fits bd (p′ k) (q′ k) ≡ true)
       → room bd n p q ≡ true → room bd n p′ q′ ≡ true
   unfolding room
   room-keep bd zero p p′ q q′ k h = refl
   room-keep bd (suc n) p p′ q q′ k h = go (fits bd (p n) (q n)) refl (λ e. room-keep bd n p p′ q q′ k e) h
     where
-      go : (b : Bool) → fits bd (p n) (q n) ≡ b → (room bd n p q ≡ true → room bd n p′ q′ ≡ true) → b && room bd n p q ≡ true → fits bd (p′ n) (q′ n) && room bd n p′ q′ ≡ true
+      go : (b : Bool) → fits bd (p n) (q n) ≡ b → (room bd n p q ≡ true → room bd n p′ q′ ≡ true) → b && room bd n p q ≡ true
+          → fits bd (p′ n) (q′ n) && room bd n p′ q′ ≡ true
       go true e ih h = rw (k n e) (ih h)
       go false e ih h = both (sym h)
 
@@ -172,12 +178,16 @@ module _ {Item Val : Type 0} (bd n : ℕ) (a b : Op Item Val) (la : Local Item V
   keeps ap p r d x y s c = record {
     at = rw (la .sel-local (b .next y (s .var)) (s .var) (agree ap y (s .var))) (c .at);
     head = rw d (head-push (b .puts y (s .var) p) (s .queue p) x (c .head));
-    free = room-keep bd n (a .puts x (s .var)) (a .puts x (b .next y (s .var))) (s .queue) (after b r y s .queue) (λ k h. each k (a .outs k) refl h) (c .free);
+    free =
+        room-keep bd n (a .puts x (s .var)) (a .puts x (b .next y (s .var))) (s .queue) (after b r y s .queue)
+        (λ k h. each k (a .outs k) refl h) (c .free);
   }
     where
       each : (k : ℕ) (o : Bool) → a .outs k ≡ o → fits bd (a .puts x (s .var) k) (s .queue k) ≡ true
           → fits bd (a .puts x (b .next y (s .var)) k) (after b r y s .queue k) ≡ true
-      each k true e h = rw (la .puts-local x (b .next y (s .var)) (s .var) (agree ap y (s .var)) k, lb .puts-out y (s .var) k (ap .queues k e)) (fits-pop bd (a .puts x (s .var) k) (eqb k r) (s .queue k) h)
+      each k true e h =
+          rw (la .puts-local x (b .next y (s .var)) (s .var) (agree ap y (s .var)) k, lb .puts-out y (s .var) k (ap .queues k e))
+          (fits-pop bd (a .puts x (s .var) k) (eqb k r) (s .queue k) h)
       each k false e h = rw (la .puts-out x (b .next y (s .var)) k e)
 
 module _ {Item Val : Type 0} (bd n : ℕ) (a b : Op Item Val) (la : Local Item Val a) (lb : Local Item Val b) where
@@ -190,17 +200,28 @@ module _ {Item Val : Type 0} (bd n : ℕ) (a b : Op Item Val) (la : Local Item V
       v = s .var
 
       vars : (k : ℕ) (o : Bool) → a .own k ≡ o → (o′ : Bool) → b .own k ≡ o′ → a .next x (b .next y v) k ≡ b .next y (a .next x v) k
-      vars k true e o′ e′ = la .next-local x (b .next y v) v (λ i h. lb .next-frame y v i (ab .vars i h)) k e ∙ sym (lb .next-frame y (a .next x v) k (ab .vars k e))
-      vars k false e true e′ = la .next-frame x (b .next y v) k e ∙ sym (lb .next-local y (a .next x v) v (λ i h. la .next-frame x v i (ba .vars i h)) k e′)
-      vars k false e false e′ = la .next-frame x (b .next y v) k e ∙ lb .next-frame y v k e′ ∙ sym (la .next-frame x v k e) ∙ sym (lb .next-frame y (a .next x v) k e′)
+      vars k true e o′ e′ =
+          la .next-local x (b .next y v) v (λ i h. lb .next-frame y v i (ab .vars i h)) k e
+          ∙ sym (lb .next-frame y (a .next x v) k (ab .vars k e))
+      vars k false e true e′ =
+          la .next-frame x (b .next y v) k e ∙ sym (lb .next-local y (a .next x v) v (λ i h. la .next-frame x v i (ba .vars i h)) k e′)
+      vars k false e false e′ =
+          la .next-frame x (b .next y v) k e ∙ lb .next-frame y v k e′ ∙ sym (la .next-frame x v k e)
+          ∙ sym (lb .next-frame y (a .next x v) k e′)
 
       one : (k : ℕ) (o : Bool) → a .outs k ≡ o → (a .puts x v k ≡ none) ⊎ (b .puts y v k ≡ none)
       one k true e = inr (lb .puts-out y v k (ab .queues k e))
       one k false e = inl (la .puts-out x v k e)
 
       queues : (k : ℕ) → after a p x (after b r y s) .queue k ≡ after b r y (after a p x s) .queue k
-      queues k = rw (la .puts-local x (b .next y v) v (λ i h. lb .next-frame y v i (ab .vars i h)) k, lb .puts-local y (a .next x v) v (λ i h. la .next-frame x v i (ba .vars i h)) k)
-          (swap (eqb k p) (eqb k r) (a .puts x v k) (b .puts y v k) (s .queue k) x y (λ e. rw (eqb-true k p e) d) (λ e. rw (eqb-true k p e) (ca .head)) (λ e. rw (eqb-true k r e) (cb .head)) (one k (a .outs k) refl))
+      queues k =
+          rw (
+            la .puts-local x (b .next y v) v (λ i h. lb .next-frame y v i (ab .vars i h)) k,
+            lb .puts-local y (a .next x v) v
+                (λ i h. la .next-frame x v i (ba .vars i h)) k,
+          )
+          (swap (eqb k p) (eqb k r) (a .puts x v k) (b .puts y v k) (s .queue k) x y (λ e. rw (eqb-true k p e) d)
+          (λ e. rw (eqb-true k p e) (ca .head)) (λ e. rw (eqb-true k r e) (cb .head)) (one k (a .outs k) refl))
 
 eqb-sym-false : (p r : ℕ) → eqb p r ≡ false → eqb r p ≡ false
 eqb-sym-false p r e = go (eqb r p) refl
@@ -226,7 +247,8 @@ module _ {Item Val : Type 0} (bd n : ℕ) (reader : ℕ → Option ℕ) (op : �
         Met : ℕ → ℕ → Type 0
         Met i j = (v : State Item Val) × (fireOp bd n (op j) r t ≡ some v) × (fireOp bd n (op i) p u ≡ some v)
 
-        met : (i j : ℕ) (x y : Item) → eqb p r ≡ false → Can bd n (op i) p x s → t ≡ after (op i) p x s → Can bd n (op j) r y s → u ≡ after (op j) r y s → (b : Bool) → eqb i j ≡ b → Met i j
+        met : (i j : ℕ) (x y : Item) → eqb p r ≡ false → Can bd n (op i) p x s → t ≡ after (op i) p x s → Can bd n (op j) r y s
+            → u ≡ after (op j) r y s → (b : Bool) → eqb i j ≡ b → Met i j
         met i j x y d ca et cb eu true h =
             let k : i ≡ j = eqb-true i j h in
             let h₁ : op i .sel (s .var) ≡ p = eqb-true (op i .sel (s .var)) p (ca .at) in
@@ -238,12 +260,15 @@ module _ {Item Val : Type 0} (bd n : ℕ) (reader : ℕ → Option ℕ) (op : �
             let ji = calm j i (eqb-sym-false i j h) in
             let d′ = eqb-sym-false p r d in (
               after (op j) r y (after (op i) p x s),
-              ap (fireOp bd n (op j) r) et ∙ can-fire bd n (op j) r y (after (op i) p x s) (keeps bd n (op j) (op i) (loc j) (loc i) ji r p d′ y x s cb),
-              ap (fireOp bd n (op i) p) eu ∙ can-fire bd n (op i) p x (after (op j) r y s) (keeps bd n (op i) (op j) (loc i) (loc j) ij p r d x y s ca)
+              ap (fireOp bd n (op j) r) et
+                  ∙ can-fire bd n (op j) r y (after (op i) p x s) (keeps bd n (op j) (op i) (loc j) (loc i) ji r p d′ y x s cb),
+              ap (fireOp bd n (op i) p) eu
+                  ∙ can-fire bd n (op i) p x (after (op j) r y s) (keeps bd n (op i) (op j) (loc i) (loc j) ij p r d x y s ca)
                   ∙ ap {B = Option (State Item Val)} some (meets bd n (op i) (op j) (loc i) (loc j) ij ji p r d x y s ca cb),
             )
 
-        go : (m : Option ℕ) → reader p ≡ m → (l : Option ℕ) → reader r ≡ l → (b : Bool) → eqb p r ≡ b → stepAt m p s ≡ some t → stepAt l r s ≡ some u
+        go : (m : Option ℕ) → reader p ≡ m → (l : Option ℕ) → reader r ≡ l → (b : Bool) → eqb p r ≡ b → stepAt m p s ≡ some t
+            → stepAt l r s ≡ some u
             → Meet step p r t u
         go none hm l hl b hb e f = let z : _≡_ {A = ℕ} 0 1 = cc in absurd (omega arith)
         go (some i) hm none hl b hb e f = let z : _≡_ {A = ℕ} 0 1 = cc in absurd (omega arith)

@@ -1,33 +1,38 @@
 -- Reordered and split sheets are accepted and calm.
 -- Assumes nothing.
-use mathlib.Core.Path.{_≡_, refl, ap, sym, _∙_, subst, subst₂, fun-ext}
-use mathlib.Core.Bool.{Bool, true, false, cond, _&&_, _||_}
-use mathlib.Core.Logic.{_⊎_, inl, inr, _≢_}
-use mathlib.Core.List.{List, [], _∷_, _++_, map}
-use Prim.Native.Nat.{ℕ, zero, suc, pred, _+_, _*_, _-_, _≤_, _<_}
+use mathlib.Core.Path.{_≡_, refl, ap, sym, _∙_}
+use mathlib.Core.Bool.{Bool, true, false}
+use mathlib.Core.Logic.{_≢_}
+use mathlib.Core.List.{List, [], _∷_, _++_}
+use Prim.Native.Nat.{ℕ, zero, suc, _+_, _≤_, _<_}
 use native.Mathlib.Omega.{arith}
-use lib.ListN.{length, getD, length-map}
+use lib.ListN.{length, getD}
 use lib.Dec.{eqb, ltb}
-use lib.IntN.{ℤ, pos}
+use lib.IntN.{pos}
 use borrow.Author.Tests.{eqb-true, eqb-false, ltb-true, ltb-false}
 use Rattle.theory.proofs.Trace.{eqb-same}
 use Rattle.theory.proofs.Steps.{Item, Step, names, lineOp}
 use Rattle.theory.proofs.Deal.{dealOp, gatherOp}
-use Rattle.theory.proofs.Equations.{Kind, line, latest, double, deal, gather, Whole, Queues, Variables, Ways, pure, pruns, bindO, total, total-names}
+use Rattle.theory.proofs.Equations.{Kind, line, latest, double, deal, gather, Queues, Variables, Ways, pure, pruns, bindO, total}
+use Rattle.theory.proofs.Equations.{total-names}
 use Rattle.theory.proofs.Denote.{denote, latestOp, doubleOp}
-use Rattle.theory.proofs.Sheets.{holds}
-use Rattle.theory.proofs.Rewrites.{All, none-left, also, first, rest, all-join, all-left, all-right, F-eqb, F-ltb, T-ltb, range, lines, Below}
-use Rattle.theory.proofs.Accept.{bit, bit-one, one-bit, tot, tot-append, tot-at, occ, givesN, readsN, holdsN, Ord, ord-end, ord-on, ord-head, ord-rest, Acc, accepted, not-input}
+use Rattle.theory.proofs.Rewrites.{All, none-left, also, first, rest, all-join, all-left, all-right, F-eqb, F-ltb, range, lines}
+use Rattle.theory.proofs.Accept.{bit, bit-one, one-bit, tot, tot-append, tot-at, occ, givesN, readsN, holdsN, Ord, ord-on}
+use Rattle.theory.proofs.Accept.{ord-head, ord-rest, Acc, accepted, not-input}
 use Rattle.theory.proofs.Demand.{Refines}
 use Rattle.theory.proofs.Refine.{reorder-refines, split-refines}
-use Rattle.theory.proofs.FuseAcc.{old, old-tot, ord-a, ord-b, ord-right, ord-swap, p≢m, o≢m, m-in, keeps-pre, keeps-mid, keeps-post, bit-zero}
+use Rattle.theory.proofs.FuseAcc.{old, old-tot, ord-a, ord-b, ord-right, ord-swap, p≢m, o≢m, m-in, keeps-pre, keeps-mid}
+use Rattle.theory.proofs.FuseAcc.{keeps-post}
 
 module _ (I Q p m o : ℕ) (a b : List Step) (pre mid post : List Kind) (acc : Acc I Q (old I Q p m o a b pre mid post)) where
   abbrev pub turned : List Kind
   turned = pre ++ (line p m b ∷ (mid ++ (line m o a ∷ post)))
 
-  pub reorder-ok : (V′ : ℕ) → pure a ≡ true → pure b ≡ true → ((x : Item) → bindO (pruns a x) (pruns b) ≡ bindO (pruns b x) (pruns a)) → Refines I Q V′ (old I Q p m o a b pre mid post) Q turned
-  reorder-ok V′ pa pb c = reorder-refines I Q V′ p m o a b pre mid post pa pb c (p≢m I Q p m o a b pre mid post acc) (o≢m I Q p m o a b pre mid post acc) (m-in I Q p m o a b pre mid post acc .0)
+  pub reorder-ok : (V′ : ℕ) → pure a ≡ true → pure b ≡ true → ((x : Item) → bindO (pruns a x) (pruns b) ≡ bindO (pruns b x) (pruns a))
+      → Refines I Q V′ (old I Q p m o a b pre mid post) Q turned
+  reorder-ok V′ pa pb c =
+      reorder-refines I Q V′ p m o a b pre mid post pa pb c (p≢m I Q p m o a b pre mid post acc) (o≢m I Q p m o a b pre mid post acc)
+      (m-in I Q p m o a b pre mid post acc .0)
       (keeps-pre I Q p m o a b pre mid post acc) (keeps-mid I Q p m o a b pre mid post acc) (keeps-post I Q p m o a b pre mid post acc)
 
   gives-same : (q : ℕ) → tot (givesN q) turned ≡ tot (givesN q) (old I Q p m o a b pre mid post)
@@ -53,14 +58,20 @@ module _ (I Q p m o : ℕ) (a b : List Step) (pre mid post : List Kind) (acc : A
     calm = λ k. rw (held-same k) (acc .calm k);
     ways =
         let w = all-right pre (line p m a ∷ (mid ++ (line m o b ∷ post))) (acc .ways) in
-        all-join (all-left pre (line p m a ∷ (mid ++ (line m o b ∷ post))) (acc .ways)) (also {x = line p m b} tt (all-join (all-left mid (line m o b ∷ post) (rest w)) (also {x = line m o a} tt (rest (all-right mid (line m o b ∷ post) (rest w))))));
+        all-join (all-left pre (line p m a ∷ (mid ++ (line m o b ∷ post))) (acc .ways))
+        (also {x = line p m b} tt (all-join (all-left mid (line m o b ∷ post) (rest w))
+        (also {x = line m o a} tt (rest (all-right mid (line m o b ∷ post) (rest w))))));
     ord =
         let oa = ord-a I Q p m o a b pre mid post acc in
         let ob = ord-b I Q p m o a b pre mid post acc in
-        let same : (q : ℕ) → tot (givesN q) (mid ++ (line m o a ∷ post)) ≡ tot (givesN q) (mid ++ (line m o b ∷ post)) = λ q. tot-append (givesN q) mid (line m o a ∷ post) ∙ sym (tot-append (givesN q) mid (line m o b ∷ post)) in
-        ord-swap pre (line p m a ∷ (mid ++ (line m o b ∷ post))) (line p m b ∷ (mid ++ (line m o a ∷ post))) (λ q. omega (arith, same q)) (acc .ord)
+        let same : (q : ℕ) → tot (givesN q) (mid ++ (line m o a ∷ post)) ≡ tot (givesN q)
+        (mid ++ (line m o b ∷ post)) = λ q. tot-append (givesN q) mid (line m o a ∷ post)
+        ∙ sym (tot-append (givesN q) mid (line m o b ∷ post)) in
+        ord-swap pre (line p m a ∷ (mid ++ (line m o b ∷ post))) (line p m b ∷ (mid ++ (line m o a ∷ post)))
+        (λ q. omega (arith, same q)) (acc .ord)
         (ord-on {κ = line p m b} {κs = mid ++ (line m o a ∷ post)} (λ q h. omega (arith, same q, ord-head oa q h))
-        (ord-swap mid (line m o b ∷ post) (line m o a ∷ post) (λ q. omega arith) (ord-rest oa) (ord-on {κ = line m o a} {κs = post} (λ q h. ord-head ob q h) (ord-rest ob))));
+        (ord-swap mid (line m o b ∷ post) (line m o a ∷ post) (λ q. omega arith) (ord-rest oa)
+        (ord-on {κ = line m o a} {κs = post} (λ q h. ord-head ob q h) (ord-rest ob))));
   }
 
 -- split: the new queues are counted by the ranges
@@ -109,20 +120,30 @@ range-length q zero = refl
 range-length q (suc n) = ap suc (range-length (suc q) n)
 
 -- lines whose ins lie below their outs and below all that is defined after them
-ord-lines : (q r n : ℕ) (ss : List Step) (tl : List Kind) → q + n ≤ r → ((x : ℕ) → q ≤ x → x < q + n → tot (givesN x) tl ≡ 0) → Ord tl → Ord (lines q r n ss ++ tl)
+ord-lines : (q r n : ℕ) (ss : List Step) (tl : List Kind) → q + n ≤ r → ((x : ℕ) → q ≤ x → x < q + n → tot (givesN x) tl ≡ 0) → Ord tl
+    → Ord (lines q r n ss ++ tl)
 unfolding lines readsN givesN
 ord-lines q r zero ss tl h z o = o
 ord-lines q r (suc n) ss tl h z o = ord-on {κ = line q r ss} {κs = lines (suc q) (suc r) n ss ++ tl}
     (λ x g. let e = eqb-true x q (one-bit (eqb x q) g) in let f : bit (eqb x r) ≡ 0 = rw (F-eqb x r (λ k. omega arith)) in
-    omega (arith, tot-append (givesN x) (lines (suc q) (suc r) n ss) tl, gives-lines (suc q) (suc r) n ss x, occ-below (suc r) n x (omega arith), z x (omega arith) (omega arith)))
+    omega (
+      arith,
+      tot-append (givesN x) (lines (suc q) (suc r) n ss) tl,
+      gives-lines (suc q) (suc r) n ss x,
+      occ-below (suc r) n x
+          (omega arith),
+      z x (omega arith) (omega arith),
+    ))
     (ord-lines (suc q) (suc r) n ss tl (omega arith) (λ x a b. z x (omega arith) (omega arith)) o)
 
 -- a tail that defines no more of what is read before it
-ord-swap′ : (pre xs ys : List Kind) → ((q : ℕ) → 1 ≤ tot (readsN q) pre → tot (givesN q) ys ≤ tot (givesN q) xs) → Ord (pre ++ xs) → Ord ys → Ord (pre ++ ys)
+ord-swap′ : (pre xs ys : List Kind) → ((q : ℕ) → 1 ≤ tot (readsN q) pre → tot (givesN q) ys ≤ tot (givesN q) xs) → Ord (pre ++ xs)
+    → Ord ys → Ord (pre ++ ys)
 unfolding tot
 ord-swap′ [] xs ys l o o′ = o′
 ord-swap′ (κ ∷ pre) xs ys l o o′ = ord-on {κ = κ} {κs = pre ++ ys}
-    (λ q h. let e = rw (tot-append (givesN q) pre xs) at (ord-head o q h) in rw (tot-append (givesN q) pre ys) (omega (arith, l q (omega arith))))
+    (λ q h. let e = rw (tot-append (givesN q) pre xs) at (ord-head o q h) in
+    rw (tot-append (givesN q) pre ys) (omega (arith, l q (omega arith))))
     (ord-swap′ pre xs ys (λ q h. l q (omega arith)) (ord-rest o) o′)
 
 module _ (I Q V′ p o k : ℕ) (ss : List Step) (pre post : List Kind) where
@@ -139,9 +160,14 @@ module _ (I Q V′ p o k : ℕ) (ss : List Step) (pre post : List Kind) where
   unfolding tot
   whole-tot f = tot-append f pre (line p o ss ∷ post)
 
-  split-tot : (f : Kind → ℕ) → tot f split ≡ tot f pre + (f (deal V′ p (range Q k)) + (tot f (lines Q (Q + k) k ss) + (f (gather (suc V′) o (range (Q + k) k)) + tot f post)))
+  split-tot : (f : Kind → ℕ)
+      → tot f split ≡ tot f pre + (f (deal V′ p (range Q k)) +
+      (tot f (lines Q (Q + k) k ss) + (f (gather (suc V′) o (range (Q + k) k)) + tot f post)))
   unfolding tot
-  split-tot f = tot-append f pre (deal V′ p (range Q k) ∷ tail) ∙ ap (λ (n : ℕ). tot f pre + (f (deal V′ p (range Q k)) + n)) (tot-append f (lines Q (Q + k) k ss) (gather (suc V′) o (range (Q + k) k) ∷ post))
+  split-tot f =
+      tot-append f pre (deal V′ p (range Q k) ∷ tail)
+      ∙ ap (λ (n : ℕ). tot f pre + (f (deal V′ p (range Q k)) + n))
+      (tot-append f (lines Q (Q + k) k ss) (gather (suc V′) o (range (Q + k) k) ∷ post))
 
   module _ (acc : Acc I Q whole) (hk : 0 < k) (t : total ss ≡ true) (hv : (i : ℕ) → V′ ≤ i → tot (holdsN i) whole ≡ 0) where
     gives-more : (x : ℕ) → tot (givesN x) split ≡ tot (givesN x) whole + (occ x (range Q k) + occ x (range (Q + k) k))
@@ -178,7 +204,12 @@ module _ (I Q V′ p o k : ℕ) (ss : List Step) (pre post : List Kind) where
     o-low = not-input I Q whole acc o (omega (arith, whole-tot (givesN o), bit-one (eqb o o) (eqb-same o o refl))) .1
 
     gives-out : (x : ℕ) → Q ≤ x → (tot (givesN x) pre ≡ 0) × (tot (givesN x) post ≡ 0) × (givesN x (line p o ss) ≡ 0)
-    gives-out x h = (omega (arith, whole-tot (givesN x), acc .defs-out x h), omega (arith, whole-tot (givesN x), acc .defs-out x h), omega (arith, whole-tot (givesN x), acc .defs-out x h))
+    gives-out x h = (
+      omega (arith, whole-tot (givesN x), acc .defs-out x h),
+      omega (arith, whole-tot (givesN x), acc .defs-out x h),
+      omega
+          (arith, whole-tot (givesN x), acc .defs-out x h),
+    )
 
     ord-line : Ord (line p o ss ∷ post)
     ord-line = ord-right pre (line p o ss ∷ post) (acc .ord)
@@ -192,7 +223,13 @@ module _ (I Q V′ p o k : ℕ) (ss : List Step) (pre post : List Kind) where
 
     tail-gives : (x : ℕ) → tot (givesN x) tail ≡ occ x (range (Q + k) k) + (givesN x (line p o ss) + tot (givesN x) post)
     unfolding givesN tot
-    tail-gives x = omega (arith, tot-append (givesN x) (lines Q (Q + k) k ss) (gather (suc V′) o (range (Q + k) k) ∷ post), gives-lines Q (Q + k) k ss x)
+    tail-gives x =
+        omega (
+          arith,
+          tot-append (givesN x) (lines Q (Q + k) k ss) (gather (suc V′) o (range (Q + k) k) ∷ post),
+          gives-lines Q
+              (Q + k) k ss x,
+        )
 
     ord-gather : Ord (gather (suc V′) o (range (Q + k) k) ∷ post)
     unfolding readsN givesN
@@ -204,10 +241,14 @@ module _ (I Q V′ p o k : ℕ) (ss : List Step) (pre post : List Kind) where
 
     ord-split : Ord split
     unfolding readsN givesN tot
-    ord-split = ord-swap′ pre (line p o ss ∷ post) (deal V′ p (range Q k) ∷ tail) (λ q h. omega (arith, tail-gives q, ranges-low q (low-read q h))) (acc .ord)
+    ord-split =
+        ord-swap′ pre (line p o ss ∷ post) (deal V′ p (range Q k) ∷ tail)
+        (λ q h. omega (arith, tail-gives q, ranges-low q (low-read q h))) (acc .ord)
         (ord-on {κ = deal V′ p (range Q k)} {κs = tail}
-        (λ x h. let e = eqb-true x p (one-bit (eqb x p) h) in let l : x < Q = omega (arith, p-low) in omega (arith, tail-gives x, ranges-low x l, ord-head ord-line x h))
-        (ord-lines Q (Q + k) k ss (gather (suc V′) o (range (Q + k) k) ∷ post) (omega arith) (λ x h l. omega (arith, gives-out x h .1, gives-out x h .2)) ord-gather))
+        (λ x h. let e = eqb-true x p (one-bit (eqb x p) h) in let l : x < Q = omega (arith, p-low) in
+        omega (arith, tail-gives x, ranges-low x l, ord-head ord-line x h))
+        (ord-lines Q (Q + k) k ss (gather (suc V′) o (range (Q + k) k) ∷ post) (omega arith)
+        (λ x h l. omega (arith, gives-out x h .1, gives-out x h .2)) ord-gather))
 
     pub held-more : (i : ℕ) → tot (holdsN i) split ≡ tot (holdsN i) whole + (bit (eqb i V′) + bit (eqb i (suc V′)))
     unfolding denote lineOp dealOp gatherOp
@@ -227,23 +268,31 @@ module _ (I Q V′ p o k : ℕ) (ss : List Step) (pre post : List Kind) where
       calm = λ i. calm i (eqb i V′) refl (eqb i (suc V′)) refl;
       ways =
           all-join (all-left pre (line p o ss ∷ post) (acc .ways)) (also {x = deal V′ p (range Q k)} (rw (range-length Q k) hk)
-          (all-join (ways-lines Q (Q + k) k ss) (also {x = gather (suc V′) o (range (Q + k) k)} (rw (range-length (Q + k) k) hk) (rest (all-right pre (line p o ss ∷ post) (acc .ways))))));
+          (all-join (ways-lines Q (Q + k) k ss) (also {x = gather (suc V′) o (range (Q + k) k)} (rw (range-length (Q + k) k) hk)
+          (rest (all-right pre (line p o ss ∷ post) (acc .ways))))));
       ord = ord-split;
     }
       where
         defs : (x : ℕ) → x < Q + (k + k) → (b : Bool) → ltb x Q ≡ b → tot (givesN x) split + bit (ltb x I) ≡ 1
         defs x h true e = let l = ltb-true x Q e in omega (arith, gives-more x, ranges-low x l, acc .defs x l)
-        defs x h false e = let l = ltb-false x Q e in let z : bit (ltb x I) ≡ 0 = rw (F-ltb x I (omega (arith, acc .fit))) in omega (arith, gives-more x, ranges x l h, acc .defs-out x l)
+        defs x h false e =
+            let l = ltb-false x Q e in let z : bit (ltb x I) ≡ 0 = rw (F-ltb x I (omega (arith, acc .fit))) in
+            omega (arith, gives-more x, ranges x l h, acc .defs-out x l)
 
         reads : (x : ℕ) (b : Bool) → ltb x Q ≡ b → (c : Bool) → ltb x (Q + (k + k)) ≡ c → tot (readsN x) split ≤ 1
         reads x true e c e′ = let l = ltb-true x Q e in omega (arith, reads-more x, ranges-low x l, acc .reads x)
-        reads x false e true e′ = let l = ltb-false x Q e in omega (arith, reads-more x, ranges x l (ltb-true x (Q + (k + k)) e′), acc .reads-out x l)
+        reads x false e true e′ =
+            let l = ltb-false x Q e in omega (arith, reads-more x, ranges x l (ltb-true x (Q + (k + k)) e′), acc .reads-out x l)
         reads x false e false e′ = let l = ltb-false x (Q + (k + k)) e′ in omega (arith, reads-more x, ranges-high x l, acc .reads x)
 
         calm : (i : ℕ) (b : Bool) → eqb i V′ ≡ b → (c : Bool) → eqb i (suc V′) ≡ c → tot (holdsN i) split ≤ 1
         calm i true e true e′ = absurd (omega (arith, eqb-true i V′ e, eqb-true i (suc V′) e′))
-        calm i true e false e′ = let h : bit (eqb i V′) + bit (eqb i (suc V′)) ≡ 1 = rw (e, e′) in omega (arith, held-more i, hv i (omega (arith, eqb-true i V′ e)))
-        calm i false e true e′ = let h : bit (eqb i V′) + bit (eqb i (suc V′)) ≡ 1 = rw (e, e′) in omega (arith, held-more i, hv i (omega (arith, eqb-true i (suc V′) e′)))
+        calm i true e false e′ =
+            let h : bit (eqb i V′) + bit (eqb i (suc V′)) ≡ 1 = rw (e, e′) in
+            omega (arith, held-more i, hv i (omega (arith, eqb-true i V′ e)))
+        calm i false e true e′ =
+            let h : bit (eqb i V′) + bit (eqb i (suc V′)) ≡ 1 = rw (e, e′) in
+            omega (arith, held-more i, hv i (omega (arith, eqb-true i (suc V′) e′)))
         calm i false e false e′ = let h : bit (eqb i V′) + bit (eqb i (suc V′)) ≡ 0 = rw (e, e′) in omega (arith, held-more i, acc .calm i)
 
 -- what an operator names lies below what the sheet has
@@ -259,8 +308,10 @@ unfolding readsN givesN Queues
 queue-low Q (line p o ss) r g = (zero-lt Q p r, zero-lt Q o g)
 queue-low Q (latest p k f) r g = zero-lt Q p r
 queue-low Q (double p o o′) r g = (zero-lt Q p r, zero-lt Q o (λ x h. omega (arith, g x h)), zero-lt Q o′ (λ x h. omega (arith, g x h)))
-queue-low Q (deal c p os) r g = (zero-lt Q p r, λ j h. zero-lt Q (getD os j 0) (λ x l. omega (arith, g x l, tot-at (λ r. bit (eqb x r)) os j 0 h)))
-queue-low Q (gather c o is) r g = (zero-lt Q o g, λ j h. zero-lt Q (getD is j 0) (λ x l. omega (arith, r x l, tot-at (λ r. bit (eqb x r)) is j 0 h)))
+queue-low Q (deal c p os) r g =
+    (zero-lt Q p r, λ j h. zero-lt Q (getD os j 0) (λ x l. omega (arith, g x l, tot-at (λ r. bit (eqb x r)) os j 0 h)))
+queue-low Q (gather c o is) r g =
+    (zero-lt Q o g, λ j h. zero-lt Q (getD is j 0) (λ x l. omega (arith, r x l, tot-at (λ r. bit (eqb x r)) is j 0 h)))
 
 var-low : (n : ℕ) (κ : Kind) → ((i : ℕ) → n ≤ i → holdsN i κ ≡ 0) → Variables κ (λ i. i < n)
 unfolding Variables denote lineOp latestOp doubleOp dealOp gatherOp
@@ -274,7 +325,8 @@ var-low n (double p o o′) h = tt
 var-low n (deal c p os) h = zero-lt n c h
 var-low n (gather c o is) h = zero-lt n c h
 
-all-low : (Q n : ℕ) (κs : List Kind) → All Ways κs → ((x : ℕ) → Q ≤ x → tot (readsN x) κs ≡ 0) → ((x : ℕ) → Q ≤ x → tot (givesN x) κs ≡ 0) → ((i : ℕ) → n ≤ i → tot (holdsN i) κs ≡ 0)
+all-low : (Q n : ℕ) (κs : List Kind) → All Ways κs → ((x : ℕ) → Q ≤ x → tot (readsN x) κs ≡ 0)
+    → ((x : ℕ) → Q ≤ x → tot (givesN x) κs ≡ 0) → ((i : ℕ) → n ≤ i → tot (holdsN i) κs ≡ 0)
     → All (λ κ. Ways κ × Queues κ (λ r. r < Q) × Variables κ (λ i. i < n)) κs
 unfolding tot
 all-low Q n [] w r g h = none-left
@@ -282,17 +334,24 @@ all-low Q n (κ ∷ κs) w r g h = also {x = κ}
     (first w, queue-low Q κ (λ x l. omega (arith, r x l)) (λ x l. omega (arith, g x l)), var-low n κ (λ i l. omega (arith, h i l)))
     (all-low Q n κs (rest w) (λ x l. omega (arith, r x l)) (λ x l. omega (arith, g x l)) (λ i l. omega (arith, h i l)))
 
-module _ (I Q V′ p o k : ℕ) (ss : List Step) (pre post : List Kind) (acc : Acc I Q (whole I Q V′ p o k ss pre post)) (hk : 0 < k) (t : total ss ≡ true)
+module _ (I Q V′ p o k : ℕ) (ss : List Step) (pre post : List Kind) (acc : Acc I Q (whole I Q V′ p o k ss pre post)) (hk : 0 < k)
+    (t : total ss ≡ true)
     (hv : (i : ℕ) → V′ ≤ i → tot (holdsN i) (whole I Q V′ p o k ss pre post) ≡ 0) where
   pub split-ok : Refines I Q V′ (whole I Q V′ p o k ss pre post) (Q + (k + k)) (split I Q V′ p o k ss pre post)
-  split-ok = split-refines I Q V′ p o k ss pre post (λ q. []) (λ i. pos 0) hk t (p-low I Q V′ p o k ss pre post acc hk t hv) (o-low I Q V′ p o k ss pre post acc hk t hv) (acc .fit)
+  split-ok =
+      split-refines I Q V′ p o k ss pre post (λ q. []) (λ i. pos 0) hk t (p-low I Q V′ p o k ss pre post acc hk t hv)
+      (o-low I Q V′ p o k ss pre post acc hk t hv) (acc .fit)
       (λ H u. (below-pre, below-post))
     where
       parts : (f : Kind → ℕ) → tot f (whole I Q V′ p o k ss pre post) ≡ 0 → (tot f pre ≡ 0) × (tot f post ≡ 0)
       parts f z = (omega (arith, whole-tot I Q V′ p o k ss pre post f), omega (arith, whole-tot I Q V′ p o k ss pre post f))
 
       below-pre : All (λ κ. Ways κ × Queues κ (λ r. r < Q) × Variables κ (λ i. i < V′)) pre
-      below-pre = all-low Q V′ pre (all-left pre (line p o ss ∷ post) (acc .ways)) (λ x l. parts (readsN x) (acc .reads-out x l) .0) (λ x l. parts (givesN x) (acc .defs-out x l) .0) (λ i l. parts (holdsN i) (hv i l) .0)
+      below-pre =
+          all-low Q V′ pre (all-left pre (line p o ss ∷ post) (acc .ways)) (λ x l. parts (readsN x) (acc .reads-out x l) .0)
+          (λ x l. parts (givesN x) (acc .defs-out x l) .0) (λ i l. parts (holdsN i) (hv i l) .0)
 
       below-post : All (λ κ. Ways κ × Queues κ (λ r. r < Q) × Variables κ (λ i. i < V′)) post
-      below-post = all-low Q V′ post (rest (all-right pre (line p o ss ∷ post) (acc .ways))) (λ x l. parts (readsN x) (acc .reads-out x l) .1) (λ x l. parts (givesN x) (acc .defs-out x l) .1) (λ i l. parts (holdsN i) (hv i l) .1)
+      below-post =
+          all-low Q V′ post (rest (all-right pre (line p o ss ∷ post) (acc .ways))) (λ x l. parts (readsN x) (acc .reads-out x l) .1)
+          (λ x l. parts (givesN x) (acc .defs-out x l) .1) (λ i l. parts (holdsN i) (hv i l) .1)

@@ -1,23 +1,26 @@
--- Any two orders of firings on a calm sheet, loops allowed, from one starting state: if both come to rest, they fire equally often and leave one state.
+-- Any two orders of firings on a calm sheet, loops allowed, from one starting state:
+-- if both come to rest, they fire equally often and leave one state.
 -- Assumes nothing.
-use mathlib.Core.Path.{_≡_, refl, ap, sym, _∙_, subst}
+use mathlib.Core.Path.{_≡_, refl}
 use mathlib.Core.Bool.{Bool, true, false}
-use mathlib.Core.Option.{Option, some, none}
-use mathlib.Core.List.{List, [], _∷_, map}
-use Prim.Native.Nat.{ℕ, _≤_, _<_}
+use mathlib.Core.Option.{Option}
+use mathlib.Core.List.{List}
+use Prim.Native.Nat.{ℕ, _<_}
 use lib.ListN.{length, getD}
 use lib.Dec.{eqb, ltb}
-use lib.IntN.{ℤ, pos}
-use borrow.Author.Tests.{eqb-true, eqb-false, ltb-true, ltb-false}
-use Rattle.theory.proofs.Runs.{Run, Rest, Diamond, exec, fired, orders}
+use lib.IntN.{ℤ}
+use borrow.Author.Tests.{eqb-false, ltb-true, ltb-false}
+use Rattle.theory.proofs.Runs.{Rest, exec, fired, orders}
 use Rattle.theory.proofs.Model.{Op, Local, Apart, State, step, diamond}
 use Rattle.theory.proofs.Steps.{Item}
 use Rattle.theory.proofs.Equations.{Kind}
 use Rattle.theory.proofs.Denote.{denote, kind-local, takesFrom}
-use Rattle.theory.proofs.Sheets.{emptyOp, find, opAt, op-at, op-past, inside, empty-own, empty-outs, empty-local, gives, holds, blank}
+use Rattle.theory.proofs.Sheets.{emptyOp, find, opAt, op-at, op-past, inside, empty-own, empty-outs, empty-local, gives, holds}
+use Rattle.theory.proofs.Sheets.{blank}
 
 pub record Calm (ops : List Kind) : Type 0 where
-  pub def-once : (i j q : ℕ) → i < length ops → j < length ops → gives (getD ops i blank) q ≡ true → gives (getD ops j blank) q ≡ true → i ≡ j
+  pub def-once : (i j q : ℕ) → i < length ops → j < length ops → gives (getD ops i blank) q ≡ true → gives (getD ops j blank) q ≡ true
+      → i ≡ j
   pub apart : (i j k : ℕ) → i < length ops → j < length ops → holds (getD ops i blank) k ≡ true → holds (getD ops j blank) k ≡ true → i ≡ j
 
 module _ (ops : List Kind) where
@@ -37,10 +40,13 @@ module _ (ops : List Kind) where
     queues = λ q h. other (λ o. o .outs q) (empty-outs q) (λ hi hj. c .def-once i j q hi hj) h (opAt ops j .outs q) refl;
   }
     where
-      other : (f : Op Item ℤ → Bool) → f emptyOp ≡ false → (i < length ops → j < length ops → f (denote (getD ops i blank)) ≡ true → f (denote (getD ops j blank)) ≡ true → i ≡ j)
+      other : (f : Op Item ℤ → Bool) → f emptyOp ≡ false
+          → (i < length ops → j < length ops → f (denote (getD ops i blank)) ≡ true → f (denote (getD ops j blank)) ≡ true → i ≡ j)
           → f (opAt ops i) ≡ true → (b : Bool) → f (opAt ops j) ≡ b → b ≡ false
-      other f z u h true h′ = let r = inside ops i f z h in let r′ = inside ops j f z h′ in absurd (eqb-false i j e (u (r .0) (r′ .0) (r .1) (r′ .1)))
+      other f z u h true h′ =
+          let r = inside ops i f z h in let r′ = inside ops j f z h′ in absurd (eqb-false i j e (u (r .0) (r′ .0) (r .1) (r′ .1)))
       other f z u h false h′ = refl
 
-  pub one-rest : Calm ops → (is js : List ℕ) (s : State Item ℤ) → Rest fires (exec fires is s) → Rest fires (exec fires js s) → (fired fires is s ≡ fired fires js s) × (exec fires is s ≡ exec fires js s)
+  pub one-rest : Calm ops → (is js : List ℕ) (s : State Item ℤ) → Rest fires (exec fires is s) → Rest fires (exec fires js s)
+      → (fired fires is s ≡ fired fires js s) × (exec fires is s ≡ exec fires js s)
   one-rest c is js s = orders fires (diamond 64 24 (λ q. find (λ κ. takesFrom κ q) ops) (opAt ops) at-local (at-apart c)) is js s

@@ -1,24 +1,24 @@
 -- Each rewriting refines: from every solution of the old sheet one of the new, with the same inputs, outputs and old variables.
 -- Assumes nothing.
-use mathlib.Core.Path.{_≡_, refl, ap, sym, _∙_, subst, subst₂, fun-ext}
-use mathlib.Core.Bool.{Bool, true, false, cond, _&&_, _||_, or-assoc, or-comm}
-use mathlib.Core.Option.{Option, some, none}
+use mathlib.Core.Path.{_≡_, refl, ap, sym, _∙_, fun-ext}
+use mathlib.Core.Bool.{Bool, true, false, _||_, or-assoc}
 use mathlib.Core.Logic.{_⊎_, inl, inr, _≢_}
 use mathlib.Core.List.{List, [], _∷_, _++_, map}
-use Prim.Native.Nat.{ℕ, zero, suc, pred, _+_, _*_, _-_, _≤_, _<_}
+use Prim.Native.Nat.{ℕ, zero, suc, pred, _+_, _≤_, _<_}
 use native.Mathlib.Omega.{arith}
 use native.Mathlib.Nat.{zero-add, suc-add}
-use lib.ListN.{length, getD}
 use lib.Dec.{eqb, ltb}
-use lib.IntN.{ℤ, pos}
-use borrow.Author.Tests.{eqb-true, eqb-false, ltb-true, ltb-false}
+use lib.IntN.{ℤ}
+use borrow.Author.Tests.{eqb-false, ltb-true, ltb-false}
 use Rattle.theory.proofs.Trace.{eqb-same}
-use Rattle.theory.proofs.Steps.{Item, Step, names, lout, lineOp}
-use Rattle.theory.proofs.Deal.{dealt, turn, oneOf, dealOp, gatherOp}
-use Rattle.theory.proofs.Equations.{Kind, line, latest, double, deal, gather, nought, Whole, Eq, Queues, Variables, Ways, ren, image, total, pure, pruns, bindO, names-append, total-names, pure-names}
+use Rattle.theory.proofs.Steps.{Item, Step, names, lineOp}
+use Rattle.theory.proofs.Deal.{oneOf, dealOp, gatherOp}
+use Rattle.theory.proofs.Equations.{Kind, line, latest, double, deal, gather, Whole, ren, total, pure, pruns, bindO, names-append}
+use Rattle.theory.proofs.Equations.{total-names, pure-names}
 use Rattle.theory.proofs.Denote.{denote, takesFrom, latestOp, doubleOp}
 use Rattle.theory.proofs.Sheets.{holds}
-use Rattle.theory.proofs.Rewrites.{All, none-left, also, Keeps, down, up, unfused, fused, fuse-all, fuse-read, readBy, read-append, harvest, harvest-down, T-ltb, F-ltb, F-eqb, swapped, reorder-all, splitH, splitU, splitted, Below, split-all, range, lines}
+use Rattle.theory.proofs.Rewrites.{All, Keeps, down, up, fuse-all, fuse-read, readBy, read-append, harvest, harvest-down, T-ltb}
+use Rattle.theory.proofs.Rewrites.{F-eqb, swapped, reorder-all, splitH, splitU, Below, split-all, range, lines}
 use Rattle.theory.proofs.Demand.{Refines, heldBy, harvest-same}
 
 pub held-append : (xs ys : List Kind) (q : ℕ) → heldBy (xs ++ ys) q ≡ (heldBy xs q || heldBy ys q)
@@ -51,9 +51,11 @@ or-last false false true = refl
 or-last false false false = refl
 
 module _ (I Q V′ p m o : ℕ) (a b : List Step) (pre mid post : List Kind) where
-  pub fuse-refines : ((i : ℕ) → names a i ≡ true → names b i ≡ false) → ((i : ℕ) → names b i ≡ true → names a i ≡ false) → p ≢ m → o ≢ m → I ≤ m → m < Q
+  pub fuse-refines : ((i : ℕ) → names a i ≡ true → names b i ≡ false) → ((i : ℕ) → names b i ≡ true → names a i ≡ false) → p ≢ m
+      → o ≢ m → I ≤ m → m < Q
       → All (Keeps m) pre → All (Keeps m) mid → All (Keeps m) post
-      → Refines I Q V′ (pre ++ (line p m a ∷ (mid ++ (line m o b ∷ post)))) (pred Q) (map (ren (down m)) (pre ++ (line p o (a ++ b) ∷ (mid ++ post))))
+      → Refines I Q V′ (pre ++ (line p m a ∷ (mid ++ (line m o b ∷ post)))) (pred Q)
+      (map (ren (down m)) (pre ++ (line p o (a ++ b) ∷ (mid ++ post))))
   unfolding heldBy denote lineOp readBy takesFrom
   fuse-refines ab ba np nq hi hm kpre kmid kpost = record {
     to = λ H u e. (
@@ -75,13 +77,25 @@ module _ (I Q V′ p m o : ℕ) (a b : List Step) (pre mid post : List Kind) whe
       q≡ = omega arith
 
       m-read : readBy old m ≡ true
-      m-read = rw (read-append pre (line p m a ∷ (mid ++ (line m o b ∷ post))) m, read-append mid (line m o b ∷ post) m, eqb-same m m refl) (or-last (readBy pre m) (eqb m p) (readBy mid m))
+      m-read =
+          rw (read-append pre (line p m a ∷ (mid ++ (line m o b ∷ post))) m, read-append mid (line m o b ∷ post) m, eqb-same m m refl)
+          (or-last (readBy pre m) (eqb m p) (readBy mid m))
 
       same : (k : ℕ) → heldBy (pre ++ (line p o (a ++ b) ∷ (mid ++ post))) k ≡ heldBy old k
-      same k = rw (held-append pre (line p o (a ++ b) ∷ (mid ++ post)) k, held-append mid post k, held-append pre (line p m a ∷ (mid ++ (line m o b ∷ post))) k, held-append mid (line m o b ∷ post) k, names-append a b k)
-          (ap (λ (x : Bool). heldBy pre k || x) (or-assoc (names a k) (names b k) (heldBy mid k || heldBy post k) ∙ ap (λ (x : Bool). names a k || x) (or-swap (names b k) (heldBy mid k) (heldBy post k))))
+      same k =
+          rw (
+            held-append pre (line p o (a ++ b) ∷ (mid ++ post)) k,
+            held-append mid post k,
+            held-append pre
+                (line p m a ∷ (mid ++ (line m o b ∷ post))) k,
+            held-append mid (line m o b ∷ post) k,
+            names-append a b k,
+          )
+          (ap (λ (x : Bool). heldBy pre k || x) (or-assoc (names a k) (names b k) (heldBy mid k || heldBy post k)
+          ∙ ap (λ (x : Bool). names a k || x) (or-swap (names b k) (heldBy mid k) (heldBy post k))))
 
-  pub reorder-refines : pure a ≡ true → pure b ≡ true → ((x : Item) → bindO (pruns a x) (pruns b) ≡ bindO (pruns b x) (pruns a)) → p ≢ m → o ≢ m → I ≤ m
+  pub reorder-refines : pure a ≡ true → pure b ≡ true → ((x : Item) → bindO (pruns a x) (pruns b) ≡ bindO (pruns b x) (pruns a))
+      → p ≢ m → o ≢ m → I ≤ m
       → All (Keeps m) pre → All (Keeps m) mid → All (Keeps m) post
       → Refines I Q V′ (pre ++ (line p m a ∷ (mid ++ (line m o b ∷ post)))) Q (pre ++ (line p m b ∷ (mid ++ (line m o a ∷ post))))
   unfolding heldBy denote lineOp readBy takesFrom
@@ -92,10 +106,20 @@ module _ (I Q V′ p m o : ℕ) (a b : List Step) (pre mid post : List Kind) whe
       reorder-all p m o a b pre mid post H u pa pb c np nq kpre kmid kpost e,
       (λ q h. rw (F-eqb q m (λ e. omega arith))),
       ap (λ (rd : ℕ → Bool). harvest rd (swapped p m o a b pre mid post H u) Q 0) (fun-ext reads)
-          ∙ harvest-same (readBy old) (swapped p m o a b pre mid post H u) H Q 0 (λ q l h. rw (F-eqb q m (λ e. clash (sym (m-read) ∙ ap (readBy old) (sym e) ∙ h)))),
+          ∙ harvest-same (readBy old) (swapped p m o a b pre mid post H u) H Q 0
+          (λ q l h. rw (F-eqb q m (λ e. clash (sym (m-read) ∙ ap (readBy old) (sym e) ∙ h)))),
       (λ k h. refl),
     );
-    named = λ k h. rw (held-append pre new k, held-append pre old′ k, held-append mid (line m o a ∷ post) k, held-append mid (line m o b ∷ post) k, pure-names a k pa, pure-names b k pb);
+    named = λ k h.
+        rw (
+          held-append pre new k,
+          held-append pre old′ k,
+          held-append mid (line m o a ∷ post) k,
+          held-append mid
+              (line m o b ∷ post) k,
+          pure-names a k pa,
+          pure-names b k pb,
+        );
   }
     where
       clash : {A : Type 0} → true ≡ false → A
@@ -111,26 +135,33 @@ module _ (I Q V′ p m o : ℕ) (a b : List Step) (pre mid post : List Kind) whe
       old = pre ++ old′
 
       m-read : readBy old m ≡ true
-      m-read = rw (read-append pre old′ m, read-append mid (line m o b ∷ post) m, eqb-same m m refl) (or-last (readBy pre m) (eqb m p) (readBy mid m))
+      m-read =
+          rw (read-append pre old′ m, read-append mid (line m o b ∷ post) m, eqb-same m m refl)
+          (or-last (readBy pre m) (eqb m p) (readBy mid m))
 
       reads : (q : ℕ) → readBy (pre ++ new) q ≡ readBy old q
-      reads q = rw (read-append pre new q, read-append pre old′ q, read-append mid (line m o a ∷ post) q, read-append mid (line m o b ∷ post) q)
+      reads q =
+          rw (read-append pre new q, read-append pre old′ q, read-append mid (line m o a ∷ post) q, read-append mid (line m o b ∷ post) q)
 
 -- split
 harvest-none : (rd : ℕ → Bool) (H : Whole) (n q : ℕ) → ((r : ℕ) → q ≤ r → r < q + n → rd r ≡ true) → harvest rd H n q ≡ []
 unfolding harvest
 harvest-none rd H zero q f = refl
-harvest-none rd H (suc n) q f = rw (f q (omega arith) (omega arith)) (harvest-none rd H n (suc q) (λ r h l. f r (omega arith) (omega arith)))
+harvest-none rd H (suc n) q f =
+    rw (f q (omega arith) (omega arith)) (harvest-none rd H n (suc q) (λ r h l. f r (omega arith) (omega arith)))
 
-harvest-add : (rd : ℕ → Bool) (H : Whole) (n j q : ℕ) → ((r : ℕ) → q + n ≤ r → r < q + n + j → rd r ≡ true) → harvest rd H (n + j) q ≡ harvest rd H n q
+harvest-add : (rd : ℕ → Bool) (H : Whole) (n j q : ℕ) → ((r : ℕ) → q + n ≤ r → r < q + n + j → rd r ≡ true)
+    → harvest rd H (n + j) q ≡ harvest rd H n q
 unfolding harvest
 harvest-add rd H zero j q f = rw (zero-add j) (harvest-none rd H j q (λ r h l. f r (omega arith) (omega arith)))
 harvest-add rd H (suc n) j q f = rw (suc-add n j) (rw (harvest-add rd H n j (suc q) (λ r h l. f r (omega arith) (omega arith))))
 
-harvest-reads : (rd rd′ : ℕ → Bool) (H H′ : Whole) (n q : ℕ) → ((r : ℕ) → r < q + n → (rd r ≡ rd′ r) × (H r ≡ H′ r)) → harvest rd H n q ≡ harvest rd′ H′ n q
+harvest-reads : (rd rd′ : ℕ → Bool) (H H′ : Whole) (n q : ℕ) → ((r : ℕ) → r < q + n → (rd r ≡ rd′ r) × (H r ≡ H′ r))
+    → harvest rd H n q ≡ harvest rd′ H′ n q
 unfolding harvest
 harvest-reads rd rd′ H H′ zero q f = refl
-harvest-reads rd rd′ H H′ (suc n) q f = let h = f q (omega arith) in rw (h .0, h .1, harvest-reads rd rd′ H H′ n (suc q) (λ r l. f r (omega arith)))
+harvest-reads rd rd′ H H′ (suc n) q f =
+    let h = f q (omega arith) in rw (h .0, h .1, harvest-reads rd rd′ H H′ n (suc q) (λ r l. f r (omega arith)))
 
 read-lines : (q r n : ℕ) (ss : List Step) (x : ℕ) → (x < q) ⊎ (q + n ≤ x) → readBy (lines q r n ss) x ≡ false
 unfolding lines readBy takesFrom
@@ -143,7 +174,8 @@ unfolding lines readBy takesFrom
 read-lines-in q r zero ss x h l = absurd (omega arith)
 read-lines-in q r (suc n) ss x h l = go (eqb x q) refl (λ h. read-lines-in (suc q) (suc r) n ss x h (omega arith))
   where
-    go : (b : Bool) → eqb x q ≡ b → (suc q ≤ x → readBy (lines (suc q) (suc r) n ss) x ≡ true) → (b || readBy (lines (suc q) (suc r) n ss) x) ≡ true
+    go : (b : Bool) → eqb x q ≡ b → (suc q ≤ x → readBy (lines (suc q) (suc r) n ss) x ≡ true)
+        → (b || readBy (lines (suc q) (suc r) n ss) x) ≡ true
     go true e ih = refl
     go false e ih = let k : x ≢ q = eqb-false x q e in ih (omega arith)
 
@@ -180,7 +212,8 @@ or-true₄ false false false d = refl
 module _ (I Q V′ p o k : ℕ) (ss : List Step) (pre post : List Kind) (Hx : Whole) (ux : ℕ → ℤ) where
   pub split-refines : 0 < k → total ss ≡ true → p < Q → o < Q → I ≤ Q
       → ((H : Whole) (u : ℕ → ℤ) → All (Below p o k Q V′ ss pre post H u) pre × All (Below p o k Q V′ ss pre post H u) post)
-      → Refines I Q V′ (pre ++ (line p o ss ∷ post)) (Q + (k + k)) (pre ++ (deal V′ p (range Q k) ∷ (lines Q (Q + k) k ss ++ (gather (suc V′) o (range (Q + k) k) ∷ post))))
+      → Refines I Q V′ (pre ++ (line p o ss ∷ post)) (Q + (k + k))
+      (pre ++ (deal V′ p (range Q k) ∷ (lines Q (Q + k) k ss ++ (gather (suc V′) o (range (Q + k) k) ∷ post))))
   unfolding heldBy denote lineOp dealOp gatherOp readBy takesFrom
   split-refines hk t hp ho hi below = record {
     to = λ H u e. (
@@ -189,7 +222,8 @@ module _ (I Q V′ p o k : ℕ) (ss : List Step) (pre post : List Kind) (Hx : Wh
       split-all p o k Q V′ ss pre post H u hk t hp ho (below H u .0) (below H u .1) e,
       (λ q h. rw (T-ltb q Q (omega arith))),
       harvest-add (readBy new) (splitH p o k Q V′ ss pre post H u) Q (k + k) 0 (λ r h l. fresh-read r (omega arith) (omega arith))
-          ∙ harvest-reads (readBy new) (readBy old) (splitH p o k Q V′ ss pre post H u) H Q 0 (λ r l. let h : r < Q = omega arith in (old-read r h, rw (T-ltb r Q h))),
+          ∙ harvest-reads (readBy new) (readBy old) (splitH p o k Q V′ ss pre post H u) H Q 0
+          (λ r l. let h : r < Q = omega arith in (old-read r h, rw (T-ltb r Q h))),
       (λ i h. rw (T-ltb i V′ h)),
     );
     named = λ i h. rw (
@@ -212,15 +246,23 @@ module _ (I Q V′ p o k : ℕ) (ss : List Step) (pre post : List Kind) (Hx : Wh
       old : List Kind
       old = pre ++ (line p o ss ∷ post)
 
-      shape : (q : ℕ) → readBy new q ≡ (readBy pre q || (eqb q p || (readBy (lines Q (Q + k) k ss) q || (oneOf q (range (Q + k) k) || readBy post q))))
+      shape : (q : ℕ) → readBy new q ≡ (readBy pre q ||
+          (eqb q p || (readBy (lines Q (Q + k) k ss) q || (oneOf q (range (Q + k) k) || readBy post q))))
       shape q = rw (read-append pre tail q, read-append (lines Q (Q + k) k ss) (gather (suc V′) o (range (Q + k) k) ∷ post) q)
 
       old-read : (q : ℕ) → q < Q → readBy new q ≡ readBy old q
-      old-read q h = shape q ∙ rw (read-lines Q (Q + k) k ss q (inl h), range-out (Q + k) k q (omega arith), read-append pre (line p o ss ∷ post) q)
+      old-read q h =
+          shape q ∙ rw (read-lines Q (Q + k) k ss q (inl h), range-out (Q + k) k q (omega arith), read-append pre (line p o ss ∷ post) q)
 
       fresh-read : (q : ℕ) → Q ≤ q → q < Q + (k + k) → readBy new q ≡ true
       fresh-read q h l = shape q ∙ go (ltb q (Q + k)) refl
         where
-          go : (b : Bool) → ltb q (Q + k) ≡ b → (readBy pre q || (eqb q p || (readBy (lines Q (Q + k) k ss) q || (oneOf q (range (Q + k) k) || readBy post q)))) ≡ true
-          go true e = rw (read-lines-in Q (Q + k) k ss q h (ltb-true q (Q + k) e)) (or-true₃ (readBy pre q) (eqb q p) (oneOf q (range (Q + k) k) || readBy post q))
-          go false e = let m = ltb-false q (Q + k) e in rw (range-in (Q + k) k q m (omega arith)) (or-true₄ (readBy pre q) (eqb q p) (readBy (lines Q (Q + k) k ss) q) (readBy post q))
+          go : (b : Bool) → ltb q (Q + k) ≡ b
+              → (readBy pre q || (eqb q p || (readBy (lines Q (Q + k) k ss) q || (oneOf q (range (Q + k) k) || readBy post q)))) ≡ true
+          go true e =
+              rw (read-lines-in Q (Q + k) k ss q h (ltb-true q (Q + k) e))
+              (or-true₃ (readBy pre q) (eqb q p) (oneOf q (range (Q + k) k) || readBy post q))
+          go false e =
+              let m = ltb-false q (Q + k) e in
+              rw (range-in (Q + k) k q m (omega arith))
+              (or-true₄ (readBy pre q) (eqb q p) (readBy (lines Q (Q + k) k ss) q) (readBy post q))

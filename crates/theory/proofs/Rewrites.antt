@@ -1,20 +1,21 @@
 -- The rewritings on whole sheets: from a solution of the old sheet to one of the new, with the same outputs.
 -- Assumes nothing.
-use mathlib.Core.Path.{_≡_, refl, ap, sym, _∙_, subst, subst₂, fun-ext}
-use mathlib.Core.Bool.{Bool, true, false, cond, _&&_, _||_, or-assoc}
-use mathlib.Core.Option.{Option, some, none}
-use mathlib.Core.Logic.{_⊎_, inl, inr, _≢_}
+use mathlib.Core.Path.{_≡_, refl, ap, sym, _∙_, subst, subst₂}
+use mathlib.Core.Bool.{Bool, true, false, cond, _||_, or-assoc}
+use mathlib.Core.Logic.{_≢_}
 use mathlib.Core.List.{List, [], _∷_, _++_, map}
-use Prim.Native.Nat.{ℕ, zero, suc, pred, _+_, _*_, _-_, _≤_, _<_}
+use Prim.Native.Nat.{ℕ, zero, suc, pred, _+_, _-_, _≤_, _<_}
 use native.Mathlib.Omega.{arith}
-use lib.ListN.{length, length-map, getD}
+use lib.ListN.{length, getD}
 use lib.Dec.{eqb, ltb}
 use lib.IntN.{ℤ, pos}
-use borrow.Author.Tests.{eqb-true, eqb-false, ltb-true, ltb-false}
+use borrow.Author.Tests.{eqb-true, eqb-false, ltb-true, ltb-false, lt-ltb, le-ltb}
 use Rattle.theory.proofs.Trace.{eqb-same}
 use Rattle.theory.proofs.Steps.{Item, Step, names, lout}
 use Rattle.theory.proofs.Deal.{dealt, turn, oneOf}
-use Rattle.theory.proofs.Equations.{Kind, line, latest, double, deal, gather, nought, Whole, Eq, Queues, Variables, Ways, ren, eq-ren, fuse-eq, reorder-eq, image, total, split-deal, split-line, split-gather, pure, pruns, bindO}
+use Rattle.theory.proofs.Equations.{Kind, line, latest, double, deal, gather, nought, Whole, Eq, Queues, Variables, Ways, ren}
+use Rattle.theory.proofs.Equations.{image, total, pure, pruns, bindO}
+use Rattle.theory.proofs.EquationLaws.{eq-ren, fuse-eq, reorder-eq, split-deal, split-line, split-gather}
 use Rattle.theory.proofs.Denote.{takesFrom}
 
 -- a property of each member
@@ -66,18 +67,10 @@ abbrev pub up : ℕ → ℕ → ℕ
 up m q = cond (ltb q m) q (suc q)
 
 pub T-ltb : (a b : ℕ) → a < b → ltb a b ≡ true
-T-ltb a b h = go (ltb a b) refl
-  where
-    go : (t : Bool) → ltb a b ≡ t → t ≡ true
-    go true e = refl
-    go false e = absurd (omega (arith, ltb-false a b e))
+T-ltb a b h = lt-ltb a b h
 
 pub F-ltb : (a b : ℕ) → b ≤ a → ltb a b ≡ false
-F-ltb a b h = go (ltb a b) refl
-  where
-    go : (t : Bool) → ltb a b ≡ t → t ≡ false
-    go true e = absurd (omega (arith, ltb-true a b e))
-    go false e = refl
+F-ltb a b h = le-ltb a b h
 
 pub up-down : (m q : ℕ) → q ≢ m → up m (down m q) ≡ q
 up-down m q n = go (ltb q m) refl
@@ -129,8 +122,10 @@ module _ (p m o : ℕ) (a b : List Step) (pre mid post : List Kind) (H : Whole) 
       let e₁ = all-both kpre (all-left pre (line p m a ∷ (mid ++ (line m o b ∷ post))) e) in
       let e₂ = all-both kmid (all-left mid (line m o b ∷ post) (rest r₁)) in
       let e₃ = all-both kpost (rest r₂) in
-      let l : Keeps m (line p o (a ++ b)) × Eq (line p o (a ++ b)) H u = ((tt, (np, nq)), fuse-eq p m o a b H u ab ba (first r₁) (first r₂)) in
-      all-map (ren (down m)) (λ κ h. eq-ren κ (down m) H (λ q. H (up m q)) u u (h .0 .0) (queues-map κ (λ r. r ≢ m) (λ r. H (up m (down m r)) ≡ H r) (λ r n. ap H (up-down m r n)) (h .0 .1)) (vars-same κ u) (h .1))
+      let l : Keeps m (line p o (a ++ b)) × Eq (line p o (a ++ b)) H u =
+      ((tt, (np, nq)), fuse-eq p m o a b H u ab ba (first r₁) (first r₂)) in
+      all-map (ren (down m)) (λ κ h. eq-ren κ (down m) H (λ q. H (up m q)) u u (h .0 .0)
+      (queues-map κ (λ r. r ≢ m) (λ r. H (up m (down m r)) ≡ H r) (λ r n. ap H (up-down m r n)) (h .0 .1)) (vars-same κ u) (h .1))
       (all-join e₁ (also l (all-join e₂ e₃)))
 
 -- which queues are read
@@ -203,12 +198,14 @@ unfolding harvest
 harvest-past rd H m zero q h = refl
 harvest-past rd H m (suc n) q h = rw (F-ltb q m h, harvest-past rd H m n (suc q) (omega arith))
 
-pub harvest-down : (rd : ℕ → Bool) (H : Whole) (m n q : ℕ) → rd m ≡ true → q ≤ m → m ≤ q + n → harvest (λ q. rd (up m q)) (λ q. H (up m q)) n q ≡ harvest rd H (suc n) q
+pub harvest-down : (rd : ℕ → Bool) (H : Whole) (m n q : ℕ) → rd m ≡ true → q ≤ m → m ≤ q + n
+    → harvest (λ q. rd (up m q)) (λ q. H (up m q)) n q ≡ harvest rd H (suc n) q
 unfolding harvest
 harvest-down rd H m zero q r h l = let e : q ≡ m = omega arith in let z : rd q ≡ true = rw e r in rw z
 harvest-down rd H m (suc n) q r h l = go (eqb q m) refl (λ h l. harvest-down rd H m n (suc q) r h l)
   where
-    go : (b : Bool) → eqb q m ≡ b → (suc q ≤ m → m ≤ suc q + n → harvest (λ q. rd (up m q)) (λ q. H (up m q)) n (suc q) ≡ harvest rd H (suc n) (suc q))
+    go : (b : Bool) → eqb q m ≡ b
+        → (suc q ≤ m → m ≤ suc q + n → harvest (λ q. rd (up m q)) (λ q. H (up m q)) n (suc q) ≡ harvest rd H (suc n) (suc q))
         → harvest (λ q. rd (up m q)) (λ q. H (up m q)) (suc n) q ≡ harvest rd H (suc (suc n)) q
     go true e ih =
         let k = eqb-true q m e in
@@ -222,13 +219,20 @@ harvest-down rd H m (suc n) q r h l = go (eqb q m) refl (λ h l. harvest-down rd
 -- fuse: the outputs hold the same, in number order
 module _ (p m o : ℕ) (a b : List Step) (pre mid post : List Kind) where
   pub fuse-read : p ≢ m → o ≢ m → All (Keeps m) pre → All (Keeps m) mid → All (Keeps m) post
-      → (q : ℕ) → readBy (map (ren (down m)) (pre ++ (line p o (a ++ b) ∷ (mid ++ post)))) q ≡ readBy (pre ++ (line p m a ∷ (mid ++ (line m o b ∷ post)))) (up m q)
+      → (q : ℕ) → readBy (map (ren (down m)) (pre ++ (line p o (a ++ b) ∷ (mid ++ post)))) q ≡ readBy
+      (pre ++ (line p m a ∷ (mid ++ (line m o b ∷ post)))) (up m q)
   unfolding readBy takesFrom Ways Queues
   fuse-read np nq kpre kmid kpost q =
       let l : Keeps m (line p o (a ++ b)) = (tt, (np, nq)) in
       read-down m q (all-join kpre (also l (all-join kmid kpost)))
       ∙ read-append pre (line p o (a ++ b) ∷ (mid ++ post)) (up m q)
-      ∙ rw (read-append mid post (up m q), read-append pre (line p m a ∷ (mid ++ (line m o b ∷ post))) (up m q), read-append mid (line m o b ∷ post) (up m q), F-eqb (up m q) m (up-ne m q))
+      ∙ rw (
+        read-append mid post (up m q),
+        read-append pre (line p m a ∷ (mid ++ (line m o b ∷ post))) (up m q),
+        read-append mid
+            (line m o b ∷ post) (up m q),
+        F-eqb (up m q) m (up-ne m q),
+      )
 
 -- reorder and split keep the old queue numbers
 map-id : (l : List ℕ) → map (λ q. q) l ≡ l
@@ -243,7 +247,8 @@ ren-id (double p o o′) = refl
 ren-id (deal c p os) = ap (deal c p) (map-id os)
 ren-id (gather c o is) = ap (gather c o) (map-id is)
 
-eq-frame : (κ : Kind) (H H′ : Whole) (u u′ : ℕ → ℤ) → Ways κ → Queues κ (λ r. H′ r ≡ H r) → Variables κ (λ k. u′ k ≡ u k) → Eq κ H u → Eq κ H′ u′
+eq-frame : (κ : Kind) (H H′ : Whole) (u u′ : ℕ → ℤ) → Ways κ → Queues κ (λ r. H′ r ≡ H r) → Variables κ (λ k. u′ k ≡ u k) → Eq κ H u
+    → Eq κ H′ u′
 eq-frame κ H H′ u u′ w q v e = subst (λ (k : Kind). Eq k H′ u′) (ren-id κ) (eq-ren κ (λ q. q) H H′ u u′ w q v e)
 
 all-imp : {A : Type 0} {P Q : A → Type 0} → ((x : A) → P x → Q x) → {xs : List A} → All P xs → All Q xs
@@ -259,7 +264,8 @@ module _ (p m o : ℕ) (a b : List Step) (pre mid post : List Kind) (H : Whole) 
 
   pub reorder-all : pure a ≡ true → pure b ≡ true → ((x : Item) → bindO (pruns a x) (pruns b) ≡ bindO (pruns b x) (pruns a)) → p ≢ m → o ≢ m
       → All (Keeps m) pre → All (Keeps m) mid → All (Keeps m) post
-      → All (λ κ. Eq κ H u) (pre ++ (line p m a ∷ (mid ++ (line m o b ∷ post)))) → All (λ κ. Eq κ swapped u) (pre ++ (line p m b ∷ (mid ++ (line m o a ∷ post))))
+      → All (λ κ. Eq κ H u) (pre ++ (line p m a ∷ (mid ++ (line m o b ∷ post))))
+      → All (λ κ. Eq κ swapped u) (pre ++ (line p m b ∷ (mid ++ (line m o a ∷ post))))
   reorder-all pa pb c np nq kpre kmid kpost e =
       let r₁ = all-right pre (line p m a ∷ (mid ++ (line m o b ∷ post))) e in
       let r₂ = all-right mid (line m o b ∷ post) (rest r₁) in
@@ -271,7 +277,9 @@ module _ (p m o : ℕ) (a b : List Step) (pre mid post : List Kind) (H : Whole) 
       all-join (old e₁) (also (l .0) (all-join (old e₂) (also (l .1) (old e₃))))
     where
       old : {κs : List Kind} → All (λ κ. Keeps m κ × Eq κ H u) κs → All (λ κ. Eq κ swapped u) κs
-      old e = all-imp (λ κ h. eq-frame κ H swapped u u (h .0 .0) (queues-map κ (λ r. r ≢ m) (λ r. swapped r ≡ H r) (λ r n. elsewhere r n) (h .0 .1)) (vars-same κ u) (h .1)) e
+      old e =
+          all-imp (λ κ h. eq-frame κ H swapped u u (h .0 .0)
+          (queues-map κ (λ r. r ≢ m) (λ r. swapped r ≡ H r) (λ r n. elsewhere r n) (h .0 .1)) (vars-same κ u) (h .1)) e
 
 -- split
 unfoldable pub range : ℕ → ℕ → List ℕ
@@ -322,12 +330,14 @@ module _ (p o k : ℕ) (Q V′ : ℕ) (ss : List Step) (pre post : List Kind) (H
   middle j h = let e : Q + j - Q ≡ j = omega arith in rw (F-ltb (Q + j) Q (omega arith), T-ltb (Q + j) (Q + k) (omega arith), e)
 
   high : (j : ℕ) → j < k → splitH (Q + k + j) ≡ map (image ss) (dealing j)
-  high j h = let e : Q + k + j - (Q + k) ≡ j = omega arith in rw (F-ltb (Q + k + j) Q (omega arith), F-ltb (Q + k + j) (Q + k) (omega arith), e)
+  high j h =
+      let e : Q + k + j - (Q + k) ≡ j = omega arith in rw (F-ltb (Q + k + j) Q (omega arith), F-ltb (Q + k + j) (Q + k) (omega arith), e)
 
   abbrev pub Below : Kind → Type 0
   Below κ = Ways κ × Queues κ (λ r. r < Q) × Variables κ (λ i. i < V′)
 
-  pub split-all : 0 < k → total ss ≡ true → p < Q → o < Q → All Below pre → All Below post → All (λ κ. Eq κ H u) (pre ++ (line p o ss ∷ post)) → All (λ κ. Eq κ splitH splitU) splitted
+  pub split-all : 0 < k → total ss ≡ true → p < Q → o < Q → All Below pre → All Below post
+      → All (λ κ. Eq κ H u) (pre ++ (line p o ss ∷ post)) → All (λ κ. Eq κ splitH splitU) splitted
   split-all hk t lp lo bpre bpost e =
       let r = all-right pre (line p o ss ∷ post) e in
       let l = first r in
@@ -364,7 +374,9 @@ module _ (p o k : ℕ) (Q V′ : ℕ) (ss : List Step) (pre post : List Kind) (H
       hd j h = let l : j < k = rw n at h in ap splitH (range-at Q k j l) ∙ middle j l ∙ ap (λ (n : ℕ). dealt n j 0 (H p)) (sym n)
 
       hm : (j : ℕ) → j < length os → splitH (getD is j 0) ≡ map (image ss) (dealt (length os) j 0 (H p))
-      hm j h = let l : j < k = rw n at h in ap splitH (range-at (Q + k) k j l) ∙ high j l ∙ ap (λ (n : ℕ). map (image ss) (dealt n j 0 (H p))) (sym n)
+      hm j h =
+          let l : j < k = rw n at h in ap splitH (range-at (Q + k) k j l) ∙ high j l
+          ∙ ap (λ (n : ℕ). map (image ss) (dealt n j 0 (H p))) (sym n)
 
       turned : (i : ℕ) → V′ ≤ i → splitU i ≡ pos (turn (length os) 0 (H p))
       turned i h = rw (F-ltb i V′ h) (ap (λ (n : ℕ). pos (turn n 0 (H p))) (sym n))
@@ -376,5 +388,7 @@ module _ (p o k : ℕ) (Q V′ : ℕ) (ss : List Step) (pre post : List Kind) (H
       ud = turned (suc V′) (omega arith)
 
       old : {κs : List Kind} → All (λ κ. Below κ × Eq κ H u) κs → All (λ κ. Eq κ splitH splitU) κs
-      old e = all-imp (λ κ h. eq-frame κ H splitH u splitU (h .0 .0) (queues-map κ (λ r. r < Q) (λ r. splitH r ≡ H r) (λ r l. low r l) (h .0 .1))
+      old e =
+          all-imp (λ κ h. eq-frame κ H splitH u splitU (h .0 .0)
+          (queues-map κ (λ r. r < Q) (λ r. splitH r ≡ H r) (λ r l. low r l) (h .0 .1))
           (vars-map κ (λ i. i < V′) (λ i. splitU i ≡ u i) (λ i l. rw (T-ltb i V′ l)) (h .0 .2)) (h .1)) e

@@ -1,18 +1,19 @@
 -- From a scan of the records in order, as a reader of sheets makes it, to acceptance by counting.
 -- d: the queues defined so far (the inputs at first); r: the queues read so far.
 -- Assumes nothing.
-use mathlib.Core.Path.{_≡_, refl, ap, sym, _∙_, subst}
+use mathlib.Core.Path.{_≡_, refl}
 use mathlib.Core.Bool.{Bool, true, false, _||_}
-use mathlib.Core.List.{List, [], _∷_, _++_}
+use mathlib.Core.List.{List, [], _∷_}
 use Prim.Native.Nat.{ℕ, zero, suc, _+_, _≤_, _<_}
 use native.Mathlib.Omega.{arith}
-use lib.Dec.{eqb, ltb}
-use borrow.Author.Tests.{ltb-true, ltb-false}
+use lib.Dec.{ltb}
+use borrow.Author.Tests.{ltb-true}
 use Rattle.theory.proofs.Equations.{Kind, Ways}
-use Rattle.theory.proofs.Denote.{denote, takesFrom}
-use Rattle.theory.proofs.Sheets.{gives, holds}
-use Rattle.theory.proofs.Rewrites.{All, none-left, also, F-ltb}
-use Rattle.theory.proofs.Accept.{bit, bit-one, tot, givesN, readsN, holdsN, Ord, ord-end, ord-on, Acc, gives-one, not-gives, not-reads, reads-one}
+use Rattle.theory.proofs.Denote.{takesFrom}
+use Rattle.theory.proofs.Sheets.{gives}
+use Rattle.theory.proofs.Rewrites.{All, none-left, also}
+use Rattle.theory.proofs.Accept.{bit, bit-one, tot, givesN, readsN, holdsN, Ord, ord-end, ord-on, Acc, gives-one, not-gives}
+use Rattle.theory.proofs.Accept.{not-reads, reads-one}
 
 pub record Passes (Q : ℕ) (d r : ℕ → Bool) (κ : Kind) : Type 0 where
   pub ways : Ways κ
@@ -23,7 +24,8 @@ pub record Passes (Q : ℕ) (d r : ℕ → Bool) (κ : Kind) : Type 0 where
 
 pub data Scan (Q : ℕ) : (ℕ → Bool) → (ℕ → Bool) → List Kind → Type 0 where
   at-end : {d r : ℕ → Bool} → ((q : ℕ) → q < Q → d q ≡ true) → Scan Q d r []
-  next : {d r : ℕ → Bool} {κ : Kind} {κs : List Kind} → Passes Q d r κ → Scan Q (λ q. d q || gives κ q) (λ q. r q || takesFrom κ q) κs → Scan Q d r (κ ∷ κs)
+  next : {d r : ℕ → Bool} {κ : Kind} {κs : List Kind} → Passes Q d r κ → Scan Q (λ q. d q || gives κ q) (λ q. r q || takesFrom κ q) κs
+      → Scan Q d r (κ ∷ κs)
 
 bits : (a b : Bool) (n : ℕ) → (b ≡ true → 1 ≤ n) → (b ≡ false → n ≡ 0) → n + bit a ≤ 1 → bit (a || b) ≡ bit a + n
 bits true b n f g h = omega arith
@@ -59,7 +61,8 @@ module _ (Q : ℕ) where
 
   pub scan-ord : {d r : ℕ → Bool} {ops : List Kind} → Scan Q d r ops → Ord ops
   scan-ord (at-end e) = ord-end
-  scan-ord (next {d} {r} {κ} {κs} p s) = ord-on {κ = κ} {κs = κs} (λ q h. omega (arith, scan-gives s q, gives-bit d r κ p q, bit-one (d q) (p .known q h))) (scan-ord s)
+  scan-ord (next {d} {r} {κ} {κs} p s) =
+      ord-on {κ = κ} {κs = κs} (λ q h. omega (arith, scan-gives s q, gives-bit d r κ p q, bit-one (d q) (p .known q h))) (scan-ord s)
 
   pub scan-ways : {d r : ℕ → Bool} {ops : List Kind} → Scan Q d r ops → All Ways ops
   scan-ways (at-end e) = none-left
@@ -85,14 +88,16 @@ module _ (Q : ℕ) where
   none-past zero q h f = refl
   none-past (suc n) q h f = absurd (omega (arith, f (omega arith)))
 
-  pub scan-reads-low : {d r : ℕ → Bool} {ops : List Kind} → Scan Q d r ops → ((q : ℕ) → d q ≡ true → q < Q) → (q : ℕ) → Q ≤ q → tot (readsN q) ops ≡ 0
+  pub scan-reads-low : {d r : ℕ → Bool} {ops : List Kind} → Scan Q d r ops → ((q : ℕ) → d q ≡ true → q < Q) → (q : ℕ) → Q ≤ q
+      → tot (readsN q) ops ≡ 0
   unfolding tot
   scan-reads-low (at-end e) l q h = refl
   scan-reads-low (next {d} {r} {κ} p s) l q h =
       let z = scan-reads-low s (λ q e. or-cases (d q) (gives κ q) q (l q) (λ g. p .low q (gives-one κ q g)) e) q h in
       omega (arith, none-past (readsN q κ) q h (λ o. l q (p .known q o)))
 
-  pub scan-acc : (I : ℕ) (ops : List Kind) → I ≤ Q → Scan Q (λ q. ltb q I) (λ q. false) ops → ((k : ℕ) → tot (holdsN k) ops ≤ 1) → Acc I Q ops
+  pub scan-acc : (I : ℕ) (ops : List Kind) → I ≤ Q → Scan Q (λ q. ltb q I) (λ q. false) ops → ((k : ℕ) → tot (holdsN k) ops ≤ 1)
+      → Acc I Q ops
   scan-acc I ops h s c = record {
     fit = h;
     defs = λ q l. omega (arith, scan-gives s q, scan-full s q l);

@@ -1,25 +1,22 @@
 -- A sheet as a list of kinds: its queues' readers and definers, and the sheet that the theory sees.
 -- Assumes nothing.
-use mathlib.Core.Path.{_≡_, refl, ap, sym, _∙_, subst, fun-ext}
-use mathlib.Core.Bool.{Bool, true, false, cond, _&&_, _||_}
+use mathlib.Core.Path.{_≡_, refl, ap, sym, _∙_, subst}
+use mathlib.Core.Bool.{Bool, true, false}
 use mathlib.Core.Option.{Option, some, none}
-use mathlib.Core.Logic.{_⊎_, inl, inr, _≢_}
-use mathlib.Core.List.{List, [], _∷_, _++_, head?, append-assoc, append-nil, map}
-use Prim.Native.Nat.{ℕ, zero, suc, _+_, _*_, _-_, _≤_, _<_}
+use mathlib.Core.List.{List, [], _∷_, map}
+use Prim.Native.Nat.{ℕ, zero, suc, _≤_, _<_}
 use native.Mathlib.Omega.{arith}
-use lib.ListN.{length, length-append, length-map, getD, List·getD-map, List·getD-eq-default}
+use lib.ListN.{length, length-map, getD, List·getD-map, List·getD-eq-default}
 use lib.Dec.{eqb, ltb}
-use lib.IntN.{ℤ, pos, negsuc}
-use borrow.Author.Tests.{eqb-true, eqb-false, ltb-true, ltb-false}
-use Rattle.theory.proofs.Runs.{Run, Rest}
-use Rattle.theory.proofs.Model.{Op, Vars, Local, State, step}
+use lib.IntN.{ℤ}
+use borrow.Author.Tests.{eqb-false, ltb-true, ltb-false}
+use Rattle.theory.proofs.Model.{Op, Local}
 use Rattle.theory.proofs.Trace.{eqb-same, OpSol}
-use Rattle.theory.proofs.Steps.{Item}
-use Rattle.theory.proofs.Kahn.{Sheet, Sol, Worst, rested, same-history, same-vars}
+use Rattle.theory.proofs.Steps.{Item, lineOp}
+use Rattle.theory.proofs.Kahn.{Sheet, Sol}
 use Rattle.theory.proofs.Deal.{natOf, oneOf, one-of, getD-else, dealOp, gatherOp}
 use Rattle.theory.proofs.Equations.{Kind, line, latest, double, deal, gather, nought, Whole, Eq}
 use Rattle.theory.proofs.Denote.{denote, kind-local, takesFrom, Good, sol-eq, eq-sol, latestOp, doubleOp}
-use Rattle.theory.proofs.Steps.{lineOp}
 
 abbrev bump : Option ℕ → Option ℕ
 bump none = none
@@ -41,7 +38,8 @@ module _ {A : Type 0} (f : A → Bool) where
   find-some [] i d e = let z : _≡_ {A = ℕ} 0 1 = cc in absurd (omega arith)
   find-some (x ∷ xs) i d e = go (f x) refl (find xs) refl e (λ j e. find-some xs j d e)
     where
-      go : (b : Bool) → f x ≡ b → (o : Option ℕ) → find xs ≡ o → found b o ≡ some i → ((j : ℕ) → find xs ≡ some j → (j < length xs) × (f (getD xs j d) ≡ true))
+      go : (b : Bool) → f x ≡ b → (o : Option ℕ) → find xs ≡ o → found b o ≡ some i
+          → ((j : ℕ) → find xs ≡ some j → (j < length xs) × (f (getD xs j d) ≡ true))
           → (i < suc (length xs)) × (f (getD (x ∷ xs) i d) ≡ true)
       go true h o ho e ih = let k : 0 ≡ i = cc in rw (← k) (omega arith, h)
       go false h none ho e ih = let z : _≡_ {A = ℕ} 0 1 = cc in absurd (omega arith)
@@ -52,14 +50,16 @@ module _ {A : Type 0} (f : A → Bool) where
   find-none [] i d e h = absurd (omega arith)
   find-none (x ∷ xs) i d e h = go (f x) refl (find xs) refl e i h (λ j e h. find-none xs j d e h)
     where
-      go : (b : Bool) → f x ≡ b → (o : Option ℕ) → find xs ≡ o → found b o ≡ none → (i : ℕ) → i < suc (length xs) → ((j : ℕ) → find xs ≡ none → j < length xs → f (getD xs j d) ≡ false)
+      go : (b : Bool) → f x ≡ b → (o : Option ℕ) → find xs ≡ o → found b o ≡ none → (i : ℕ) → i < suc (length xs)
+          → ((j : ℕ) → find xs ≡ none → j < length xs → f (getD xs j d) ≡ false)
           → f (getD (x ∷ xs) i d) ≡ false
       go true hb o ho e i h ih = let z : _≡_ {A = ℕ} 0 1 = cc in absurd (omega arith)
       go false hb (some j) ho e i h ih = let z : _≡_ {A = ℕ} 0 1 = cc in absurd (omega arith)
       go false hb none ho e zero h ih = hb
       go false hb none ho e (suc i) h ih = ih i ho (omega arith)
 
-  pub find-hit : (l : List A) (i : ℕ) (d : A) → i < length l → f (getD l i d) ≡ true → ((j : ℕ) → j < length l → f (getD l j d) ≡ true → j ≡ i) → find l ≡ some i
+  pub find-hit : (l : List A) (i : ℕ) (d : A) → i < length l → f (getD l i d) ≡ true
+      → ((j : ℕ) → j < length l → f (getD l j d) ≡ true → j ≡ i) → find l ≡ some i
   find-hit l i d h t u = go (find l) refl
     where
       go : (o : Option ℕ) → find l ≡ o → o ≡ some i
@@ -90,10 +90,13 @@ holds κ k = denote κ .own k
 
 -- what an accepted, calm sheet has
 pub record Accepted (I Q : ℕ) (ops : List Kind) : Type 0 where
-  pub def-once : (i j q : ℕ) → i < length ops → j < length ops → gives (getD ops i blank) q ≡ true → gives (getD ops j blank) q ≡ true → i ≡ j
-  pub read-once : (i j q : ℕ) → i < length ops → j < length ops → takesFrom (getD ops i blank) q ≡ true → takesFrom (getD ops j blank) q ≡ true → i ≡ j
+  pub def-once : (i j q : ℕ) → i < length ops → j < length ops → gives (getD ops i blank) q ≡ true → gives (getD ops j blank) q ≡ true
+      → i ≡ j
+  pub read-once : (i j q : ℕ) → i < length ops → j < length ops → takesFrom (getD ops i blank) q ≡ true
+      → takesFrom (getD ops j blank) q ≡ true → i ≡ j
   pub apart : (i j k : ℕ) → i < length ops → j < length ops → holds (getD ops i blank) k ≡ true → holds (getD ops j blank) k ≡ true → i ≡ j
-  pub order : (i j q : ℕ) → i < length ops → j < length ops → takesFrom (getD ops i blank) q ≡ true → gives (getD ops j blank) q ≡ true → j < i
+  pub order : (i j q : ℕ) → i < length ops → j < length ops → takesFrom (getD ops i blank) q ≡ true → gives (getD ops j blank) q ≡ true
+      → j < i
   pub good : (i : ℕ) → i < length ops → Good (getD ops i blank)
   pub low : (i q : ℕ) → i < length ops → takesFrom (getD ops i blank) q ≡ true → q < Q
   pub fit : I ≤ Q
@@ -109,7 +112,8 @@ op-at ops i h = getD-else (map denote ops) i emptyOp (denote blank) (rw (length-
 pub op-past : (ops : List Kind) (i : ℕ) → length ops ≤ i → opAt ops i ≡ emptyOp
 op-past ops i h = List·getD-eq-default (map denote ops) emptyOp (rw (length-map ops denote) h)
 
-pub inside : (ops : List Kind) (i : ℕ) (f : Op Item ℤ → Bool) → f emptyOp ≡ false → f (opAt ops i) ≡ true → (i < length ops) × (f (denote (getD ops i blank)) ≡ true)
+pub inside : (ops : List Kind) (i : ℕ) (f : Op Item ℤ → Bool) → f emptyOp ≡ false → f (opAt ops i) ≡ true
+    → (i < length ops) × (f (denote (getD ops i blank)) ≡ true)
 inside ops i f z h = go (ltb i (length ops)) refl
   where
     go : (b : Bool) → ltb i (length ops) ≡ b → (i < length ops) × (f (denote (getD ops i blank)) ≡ true)
@@ -136,7 +140,8 @@ sel-takes (deal c p os) g v = eqb-same p p refl
 sel-takes (gather c o is) g v = go (ltb (natOf (v c)) (length is)) refl
   where
     go : (b : Bool) → ltb (natOf (v c)) (length is) ≡ b → oneOf (getD is (natOf (v c)) (getD is 0 0)) is ≡ true
-    go true e = let l = ltb-true (natOf (v c)) (length is) e in rw (getD-else is (natOf (v c)) (getD is 0 0) 0 l) (one-of is (natOf (v c)) l)
+    go true e =
+        let l = ltb-true (natOf (v c)) (length is) e in rw (getD-else is (natOf (v c)) (getD is 0 0) 0 l) (one-of is (natOf (v c)) l)
     go false e = rw (List·getD-eq-default is (getD is 0 0) (ltb-false (natOf (v c)) (length is) e)) (one-of is 0 (g .0))
 
 module _ (I Q : ℕ) (ops : List Kind) (acc : Accepted I Q ops) where
@@ -153,7 +158,9 @@ module _ (I Q : ℕ) (ops : List Kind) (acc : Accepted I Q ops) where
     op = opAt ops;
     loc = λ i. loc i (ltb i (length ops)) refl;
     calm = λ i j e k h. calm i j e k h (opAt ops j .own k) refl;
-    outs-def = λ i q h. let r = inside ops i (λ o. o .outs q) (empty-outs q) h in find-hit (λ κ. gives κ q) ops i blank (r .0) (r .1) (λ j hj t. acc .def-once j i q hj (r .0) t (r .1));
+    outs-def = λ i q h.
+        let r = inside ops i (λ o. o .outs q) (empty-outs q) h in
+        find-hit (λ κ. gives κ q) ops i blank (r .0) (r .1) (λ j hj t. acc .def-once j i q hj (r .0) t (r .1));
     def-outs = λ q i e. let r = find-some (λ κ. gives κ q) ops i blank e in ap (λ (o : Op Item ℤ). o .outs q) (op-at ops i (r .0)) ∙ r .1;
     width = Q;
     read-lt = λ p i e. let r = find-some (λ κ. takesFrom κ p) ops i blank e in acc .low i p (r .0) (r .1);
@@ -161,7 +168,9 @@ module _ (I Q : ℕ) (ops : List Kind) (acc : Accepted I Q ops) where
     def-lt = λ q i e. find-some (λ κ. gives κ q) ops i blank e .0;
     own-lt = λ i k h. inside ops i (λ o. o .own k) (empty-own k) h .0;
     sel-in = λ i hi v. rw (op-at ops i hi) (hit i hi (denote (getD ops i blank) .sel v) (sel-takes (getD ops i blank) (acc .good i hi) v));
-    earlier = λ p i j hr hd. let r = find-some (λ κ. takesFrom κ p) ops i blank hr in let d = find-some (λ κ. gives κ p) ops j blank hd in acc .order i j p (r .0) (d .0) (r .1) (d .1);
+    earlier = λ p i j hr hd.
+        let r = find-some (λ κ. takesFrom κ p) ops i blank hr in let d = find-some (λ κ. gives κ p) ops j blank hd in
+        acc .order i j p (r .0) (d .0) (r .1) (d .1);
   }
     where
       loc : (i : ℕ) (b : Bool) → ltb i (length ops) ≡ b → Local Item ℤ (opAt ops i)
@@ -188,10 +197,12 @@ module _ (I Q : ℕ) (ops : List Kind) (acc : Accepted I Q ops) where
     eqs s i h = sol-eq H u (λ p. find (λ κ. takesFrom κ p) ops ≡ some i) (getD ops i blank) (λ p t. hit i h p t) (acc .good i h)
         (subst (λ (o : Op Item ℤ). OpSol o (λ p. find (λ κ. takesFrom κ p) ops ≡ some i) nought H u) (op-at ops i h) (s .each i h))
 
-    pub solves : ((q : ℕ) → q < Q → find (λ κ. gives κ q) ops ≡ none → H q ≡ feed q) → ((i : ℕ) → i < length ops → Eq (getD ops i blank) H u) → Sol sheetOf feed nought H u
+    pub solves : ((q : ℕ) → q < Q → find (λ κ. gives κ q) ops ≡ none → H q ≡ feed q)
+        → ((i : ℕ) → i < length ops → Eq (getD ops i blank) H u) → Sol sheetOf feed nought H u
     unfolding sheetOf
     solves f e = record {
       fixed = f;
       each = λ i h. subst (λ (o : Op Item ℤ). OpSol o (λ p. find (λ κ. takesFrom κ p) ops ≡ some i) nought H u) (sym (op-at ops i h))
-          (eq-sol H u (λ p. find (λ κ. takesFrom κ p) ops ≡ some i) (getD ops i blank) (λ p r. find-some (λ κ. takesFrom κ p) ops i blank r .1) (acc .good i h) (e i h));
+          (eq-sol H u (λ p. find (λ κ. takesFrom κ p) ops ≡ some i) (getD ops i blank)
+          (λ p r. find-some (λ κ. takesFrom κ p) ops i blank r .1) (acc .good i h) (e i h));
     }

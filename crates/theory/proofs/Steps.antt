@@ -1,21 +1,18 @@
 -- The steps of a line, and a line over a whole list of items.
 -- Assumes nothing.
-use mathlib.Core.Path.{_≡_, refl, ap, sym, _∙_, subst, fun-ext}
+use mathlib.Core.Path.{_≡_, refl, ap, _∙_}
 use mathlib.Core.Bool.{Bool, true, false, cond, _&&_, _||_}
 use mathlib.Core.Option.{Option, some, none}
-use mathlib.Core.Logic.{_⊎_, inl, inr, _≢_}
-use mathlib.Core.List.{List, [], _∷_, _++_, head?, append-assoc, append-nil, map}
-use Prim.Native.Nat.{ℕ, zero, suc, _+_, _≤_, _<_}
+use mathlib.Core.List.{List, [], _∷_, _++_}
+use Prim.Native.Nat.{ℕ}
 use native.Mathlib.Omega.{arith}
-use lib.ListN.{length, length-append, getD, set}
-use lib.Seq.{getD-set-other, getD-set-same, set-comm}
+use lib.ListN.{getD, set}
 use lib.Dec.{eqb}
-use lib.IntN.{ℤ, pos, negsuc}
+use lib.IntN.{ℤ, pos}
 use lib.Signed.{leZ}
-use borrow.Author.Tests.{eqb-true, eqb-false}
 use Rattle.effect.specs.Flow.{addOf, countOf}
-use Rattle.theory.proofs.Model.{State, Op, Vars, Agree, Local, push, pop}
-use Rattle.theory.proofs.Trace.{eqb-same, mark, cons?, tv, tput, ttake}
+use Rattle.theory.proofs.Model.{Op, Local}
+use Rattle.theory.proofs.Trace.{eqb-same, cons?, tv, tput, ttake}
 
 abbrev pub Item : Type 0
 Item = List ℤ
@@ -124,9 +121,12 @@ nor-right false b h = h
 pub runs-frame : (ss : List Step) (x : Item) (v : ℕ → ℤ) (i : ℕ) → names ss i ≡ false → runs ss x v .1 i ≡ v i
 unfolding runs names
 runs-frame [] x v i h = refl
-runs-frame (s ∷ ss) x v i h = go (one s x v .0) (one s x v .1) (one-frame s x v i (nor-left (named s i) (names ss i) h)) (λ y w. runs-frame ss y w i (nor-right (named s i) (names ss i) h))
+runs-frame (s ∷ ss) x v i h =
+    go (one s x v .0) (one s x v .1) (one-frame s x v i (nor-left (named s i) (names ss i) h))
+    (λ y w. runs-frame ss y w i (nor-right (named s i) (names ss i) h))
   where
-    go : (o : Option Item) (w : ℕ → ℤ) → w i ≡ v i → ((y : Item) (w : ℕ → ℤ) → runs ss y w .1 i ≡ w i) → then o w (λ y w. runs ss y w) .1 i ≡ v i
+    go : (o : Option Item) (w : ℕ → ℤ) → w i ≡ v i → ((y : Item) (w : ℕ → ℤ) → runs ss y w .1 i ≡ w i)
+        → then o w (λ y w. runs ss y w) .1 i ≡ v i
     go none w e ih = e
     go (some y) w e ih = ih y w ∙ e
 
@@ -139,7 +139,8 @@ runs-item (s ∷ ss) x v w h =
     (λ i e. one-vars s x v w i (λ i e. h i (or-left (named s i) (names ss i) e)) (h i (or-right (named s i) (names ss i) e)))
     (λ y v w h. runs-item ss y v w h))
   where
-    go : (o : Option Item) (v w : ℕ → ℤ) → Alike (names ss) v w → ((y : Item) (v w : ℕ → ℤ) → Alike (names ss) v w → runs ss y v .0 ≡ runs ss y w .0)
+    go : (o : Option Item) (v w : ℕ → ℤ) → Alike (names ss) v w
+        → ((y : Item) (v w : ℕ → ℤ) → Alike (names ss) v w → runs ss y v .0 ≡ runs ss y w .0)
         → then o v (λ y w. runs ss y w) .0 ≡ then o w (λ y w. runs ss y w) .0
     go none v w h ih = refl
     go (some y) v w h ih = ih y v w h
@@ -154,7 +155,8 @@ runs-vars (s ∷ ss) x v w i h d =
     (one-vars s x v w i (λ i e. h i (or-left (named s i) (names ss i) e)) d)
     (λ y v w h d. runs-vars ss y v w i h d))
   where
-    go : (o : Option Item) (v w : ℕ → ℤ) → Alike (names ss) v w → v i ≡ w i → ((y : Item) (v w : ℕ → ℤ) → Alike (names ss) v w → v i ≡ w i → runs ss y v .1 i ≡ runs ss y w .1 i)
+    go : (o : Option Item) (v w : ℕ → ℤ) → Alike (names ss) v w → v i ≡ w i
+        → ((y : Item) (v w : ℕ → ℤ) → Alike (names ss) v w → v i ≡ w i → runs ss y v .1 i ≡ runs ss y w .1 i)
         → then o v (λ y w. runs ss y w) .1 i ≡ then o w (λ y w. runs ss y w) .1 i
     go none v w h d ih = d
     go (some y) v w h d ih = ih y v w h d
@@ -231,10 +233,20 @@ module _ (a b : List Step) (ab : (i : ℕ) → names a i ≡ true → names b i 
           → ((u va vb : ℕ → ℤ) → Alike (names a) u va → Alike (names b) u vb → Fused u va vb xs) → Fused u va vb (x ∷ xs)
       go none e d ih =
           let f = ih u₁ va₁ vb ha₁ hb₁ in
-          record { out = rw (runs-append a b x u, d, e) (f .out); first = rw (runs-append a b x u, d, e) (f .first); second = rw (runs-append a b x u, d, e) (f .second) }
+          record {
+            out = rw (runs-append a b x u, d, e) (f .out);
+            first = rw (runs-append a b x u, d, e) (f .first);
+            second = rw
+                (runs-append a b x u, d, e) (f .second);
+          }
       go (some y) e d ih =
           let ha₂ : Alike (names a) (runs b y u₁ .1) va₁ = λ i h. runs-frame b y u₁ i (ab i h) ∙ ha₁ i h in
           let hb₂ : Alike (names b) (runs b y u₁ .1) (runs b y vb .1) = λ i h. runs-vars b y u₁ vb i hb₁ (hb₁ i h) in
           let f = ih (runs b y u₁ .1) va₁ (runs b y vb .1) ha₂ hb₂ in
           let g = runs-item b y u₁ vb hb₁ in
-          record { out = rw (runs-append a b x u, d, e) (rw (g, f .out)); first = rw (runs-append a b x u, d, e) (f .first); second = rw (runs-append a b x u, d, e) (f .second) }
+          record {
+            out = rw (runs-append a b x u, d, e) (rw (g, f .out));
+            first = rw (runs-append a b x u, d, e)
+                (f .first);
+            second = rw (runs-append a b x u, d, e) (f .second);
+          }

@@ -1,16 +1,14 @@
 -- One operator on its own: what it has taken, what it has put and its variables after a list of items, in the order taken.
 -- Assumes nothing.
-use mathlib.Core.Path.{_≡_, refl, ap, sym, _∙_, subst, fun-ext}
-use mathlib.Core.Bool.{Bool, true, false, _&&_}
+use mathlib.Core.Path.{_≡_, refl, ap, sym, _∙_, subst}
+use mathlib.Core.Bool.{Bool, true, false}
 use mathlib.Core.Option.{Option, some, none}
-use mathlib.Core.Logic.{_⊎_, inl, inr, _≢_}
 use mathlib.Core.List.{List, [], _∷_, _++_, head?, append-assoc, append-nil}
-use Prim.Native.Nat.{ℕ, zero, suc, _+_, _≤_, _<_}
+use Prim.Native.Nat.{ℕ}
 use native.Mathlib.Omega.{arith}
-use lib.ListN.{length, length-append}
-use lib.Dec.{eqb, eqb-refl}
-use borrow.Author.Tests.{eqb-true, eqb-false}
-use Rattle.theory.proofs.Model.{State, Op, Vars, Agree, Local, push, pop}
+use lib.Dec.{eqb}
+use borrow.Author.Tests.{eqb-false}
+use Rattle.theory.proofs.Model.{Op, Vars, push, pop}
 
 pub eqb-same : (a b : ℕ) → a ≡ b → eqb a b ≡ true
 eqb-same a b e = go (eqb a b) refl
@@ -38,10 +36,12 @@ module _ {Item : Type 0} where
   cons-nil (some x) = refl
 
   -- an item goes from the queue to what has been taken, and another may come in behind
-  pub shift : (f : Bool) (o : Option Item) (h l : List Item) (x : Item) → (f ≡ true → head? l ≡ some x) → push (mark f x) h ++ push o (pop f l) ≡ push o (h ++ l)
+  pub shift : (f : Bool) (o : Option Item) (h l : List Item) (x : Item) → (f ≡ true → head? l ≡ some x)
+      → push (mark f x) h ++ push o (pop f l) ≡ push o (h ++ l)
   shift true o h [] x e = let k = e refl in let z : _≡_ {A = ℕ} 0 1 = cc in absurd (omega arith)
   shift true none h (y ∷ l) x e = let k = e refl in let m : x ≡ y = cc in rw m (append-assoc h (y ∷ []) l)
-  shift true (some z) h (y ∷ l) x e = let k = e refl in let m : x ≡ y = cc in rw m (append-assoc h (y ∷ []) (l ++ (z ∷ [])) ∙ sym (append-assoc h (y ∷ l) (z ∷ [])))
+  shift true (some z) h (y ∷ l) x e =
+      let k = e refl in let m : x ≡ y = cc in rw m (append-assoc h (y ∷ []) (l ++ (z ∷ [])) ∙ sym (append-assoc h (y ∷ l) (z ∷ [])))
   shift false none h l x e = refl
   shift false (some z) h l x e = sym (append-assoc h l (z ∷ []))
 
@@ -63,15 +63,21 @@ module _ {Item Val : Type 0} (o : Op Item Val) where
   tv-snoc v [] x = refl
   tv-snoc v (y ∷ xs) x = tv-snoc (o .next y v) xs x
 
-  pub tput-snoc : (v : Vars Item Val) (q : ℕ) (xs : List Item) (x : Item) → tput v q (xs ++ (x ∷ [])) ≡ push (o .puts x (tv v xs) q) (tput v q xs)
+  pub tput-snoc : (v : Vars Item Val) (q : ℕ) (xs : List Item) (x : Item)
+      → tput v q (xs ++ (x ∷ [])) ≡ push (o .puts x (tv v xs) q) (tput v q xs)
   unfolding tv tput
   tput-snoc v q [] x = cons-nil (o .puts x v q)
-  tput-snoc v q (y ∷ xs) x = ap (cons? (o .puts y v q)) (tput-snoc (o .next y v) q xs x) ∙ cons-push (o .puts y v q) (o .puts x (tv (o .next y v) xs) q) (tput (o .next y v) q xs)
+  tput-snoc v q (y ∷ xs) x =
+      ap (cons? (o .puts y v q)) (tput-snoc (o .next y v) q xs x)
+      ∙ cons-push (o .puts y v q) (o .puts x (tv (o .next y v) xs) q) (tput (o .next y v) q xs)
 
-  pub ttake-snoc : (v : Vars Item Val) (p : ℕ) (xs : List Item) (x : Item) → ttake v p (xs ++ (x ∷ [])) ≡ push (mark (eqb p (o .sel (tv v xs))) x) (ttake v p xs)
+  pub ttake-snoc : (v : Vars Item Val) (p : ℕ) (xs : List Item) (x : Item)
+      → ttake v p (xs ++ (x ∷ [])) ≡ push (mark (eqb p (o .sel (tv v xs))) x) (ttake v p xs)
   unfolding tv ttake
   ttake-snoc v p [] x = cons-nil (mark (eqb p (o .sel v)) x)
-  ttake-snoc v p (y ∷ xs) x = ap (cons? (mark (eqb p (o .sel v)) y)) (ttake-snoc (o .next y v) p xs x) ∙ cons-push (mark (eqb p (o .sel v)) y) (mark (eqb p (o .sel (tv (o .next y v) xs))) x) (ttake (o .next y v) p xs)
+  ttake-snoc v p (y ∷ xs) x =
+      ap (cons? (mark (eqb p (o .sel v)) y)) (ttake-snoc (o .next y v) p xs x)
+      ∙ cons-push (mark (eqb p (o .sel v)) y) (mark (eqb p (o .sel (tv (o .next y v) xs))) x) (ttake (o .next y v) p xs)
 
 -- two lists of items that an operator could have taken from the same queues, each until it found its next queue empty, are the same
 module _ {Item : Type 0} where
@@ -95,22 +101,28 @@ module _ {Item Val : Type 0} (o : Op Item Val) (R : ℕ → Type 0) (within : (v
   unfolding ttake
   ttake-here v x xs = rw (eqb-same (o .sel v) (o .sel v) refl)
 
-  fits-tail : (v : Vars Item Val) (H : ℕ → List Item) (x : Item) (xs : List Item) → Fits o R v H (x ∷ xs) → Fits o R (o .next x v) (λ p. pop (eqb p (o .sel v)) (H p)) xs
+  fits-tail : (v : Vars Item Val) (H : ℕ → List Item) (x : Item) (xs : List Item) → Fits o R v H (x ∷ xs)
+      → Fits o R (o .next x v) (λ p. pop (eqb p (o .sel v)) (H p)) xs
   unfolding ttake
-  fits-tail v H x xs f p r = (f p r .0, sym (pop-cons (eqb p (o .sel v)) x (ttake o (o .next x v) p xs) (f p r .0)) ∙ ap (pop (eqb p (o .sel v))) (f p r .1))
+  fits-tail v H x xs f p r =
+      (f p r .0, sym (pop-cons (eqb p (o .sel v)) x (ttake o (o .next x v) p xs) (f p r .0)) ∙ ap (pop (eqb p (o .sel v))) (f p r .1))
 
-  ends-tail : (v : Vars Item Val) (H : ℕ → List Item) (x : Item) (xs : List Item) → Ends o v H (x ∷ xs) → Ends o (o .next x v) (λ p. pop (eqb p (o .sel v)) (H p)) xs
+  ends-tail : (v : Vars Item Val) (H : ℕ → List Item) (x : Item) (xs : List Item) → Ends o v H (x ∷ xs)
+      → Ends o (o .next x v) (λ p. pop (eqb p (o .sel v)) (H p)) xs
   unfolding ttake tv
   ends-tail v H x xs e =
       let p = o .sel (tv o (o .next x v) xs) in
-      sym (append-nil (ttake o (o .next x v) p xs)) ∙ sym (pop-cons (eqb p (o .sel v)) x (ttake o (o .next x v) p xs) []) ∙ ap (λ (l : List Item). pop (eqb p (o .sel v)) l) (append-nil (cons? (mark (eqb p (o .sel v)) x) (ttake o (o .next x v) p xs)) ∙ e)
+      sym (append-nil (ttake o (o .next x v) p xs)) ∙ sym (pop-cons (eqb p (o .sel v)) x (ttake o (o .next x v) p xs) [])
+      ∙ ap (λ (l : List Item). pop (eqb p (o .sel v)) l) (append-nil (cons? (mark (eqb p (o .sel v)) x) (ttake o (o .next x v) p xs)) ∙ e)
 
-  starts : (v : Vars Item Val) (H : ℕ → List Item) (x : Item) (xs : List Item) → Fits o R v H (x ∷ xs) → (t : List Item) × (H (o .sel v) ≡ x ∷ t)
+  starts : (v : Vars Item Val) (H : ℕ → List Item) (x : Item) (xs : List Item) → Fits o R v H (x ∷ xs)
+      → (t : List Item) × (H (o .sel v) ≡ x ∷ t)
   starts v H x xs f =
       let h = f (o .sel v) (within v) in
       (ttake o (o .next x v) (o .sel v) xs ++ h .0, sym (h .1) ∙ ap (λ (l : List Item). l ++ h .0) (ttake-here v x xs))
 
-  pub one-trace : (v : Vars Item Val) (H : ℕ → List Item) (xs ys : List Item) → Fits o R v H xs → Ends o v H xs → Fits o R v H ys → Ends o v H ys → xs ≡ ys
+  pub one-trace : (v : Vars Item Val) (H : ℕ → List Item) (xs ys : List Item) → Fits o R v H xs → Ends o v H xs → Fits o R v H ys
+      → Ends o v H ys → xs ≡ ys
   unfolding tv ttake
   one-trace v H [] [] fx ex fy ey = refl
   one-trace v H [] (y ∷ ys) fx ex fy ey = let h = starts v H y ys fy in absurd (cons-not-nil y (h .0) (sym (h .1) ∙ sym ex))
@@ -121,11 +133,13 @@ module _ {Item Val : Type 0} (o : Op Item Val) (R : ℕ → Type 0) (within : (v
       let e : y ≡ x = cc in
       let fy′ : Fits o R v H (x ∷ ys) = subst (λ (z : Item). Fits o R v H (z ∷ ys)) e fy in
       let ey′ : Ends o v H (x ∷ ys) = subst (λ (z : Item). Ends o v H (z ∷ ys)) e ey in
-      let ih = one-trace (o .next x v) (λ p. pop (eqb p (o .sel v)) (H p)) xs ys (fits-tail v H x xs fx) (ends-tail v H x xs ex) (fits-tail v H x ys fy′) (ends-tail v H x ys ey′) in
+      let ih = one-trace (o .next x v) (λ p. pop (eqb p (o .sel v)) (H p)) xs ys (fits-tail v H x xs fx) (ends-tail v H x xs ex)
+      (fits-tail v H x ys fy′) (ends-tail v H x ys ey′) in
       cc
 
 -- what an operator has done of itself, once it can do no more, to queues that have ever held H: xs is what it took
-pub record OpSol {Item Val : Type 0} (o : Op Item Val) (R : ℕ → Type 0) (v : Vars Item Val) (H : ℕ → List Item) (u : Vars Item Val) : Type 0 where
+pub record OpSol {Item Val : Type 0} (o : Op Item Val) (R : ℕ → Type 0) (v : Vars Item Val) (H : ℕ → List Item)
+    (u : Vars Item Val) : Type 0 where
   pub tr : List Item
   pub takes : Fits o R v H tr
   pub ends : Ends o v H tr

@@ -1,20 +1,19 @@
 -- Worst counts worked out in record order satisfy every operator's rule at the end.
 -- Assumes nothing.
-use mathlib.Core.Path.{_≡_, refl, sym, ap, _∙_, subst, fun-ext}
+use mathlib.Core.Path.{_≡_, refl, sym, _∙_}
 use mathlib.Core.Bool.{Bool, true, false, cond, _||_}
-use mathlib.Core.List.{List, [], _∷_, _++_}
+use mathlib.Core.List.{List, [], _∷_}
 use Prim.Native.Nat.{ℕ, zero, suc, _+_, _-_, _/_, _≤_, _<_}
 use native.Mathlib.Omega.{arith}
 use lib.ListN.{length, getD}
 use lib.Dec.{eqb}
-use borrow.Author.Tests.{eqb-true, eqb-false}
 use Rattle.theory.proofs.Trace.{eqb-same}
 use Rattle.theory.proofs.Kahn.{sum}
 use Rattle.theory.proofs.Deal.{oneOf, one-of}
 use Rattle.theory.proofs.Equations.{Kind, line, latest, double, deal, gather, Queues, Ways}
 use Rattle.theory.proofs.Counts.{WEq, rounded-up}
 use Rattle.theory.proofs.Rewrites.{All, none-left, also, first, rest}
-use Rattle.theory.proofs.Accept.{bit, bit-one, one-bit, tot, tot-at, occ, givesN, readsN, Ord, ord-on, ord-head, ord-rest, one-occ, occ-one}
+use Rattle.theory.proofs.Accept.{bit, bit-one, tot, occ, givesN, readsN, Ord, ord-head, ord-rest, occ-one}
 
 abbrev pub upn : ℕ → ℕ → (ℕ → ℕ) → ℕ → ℕ
 upn o n W q = cond (eqb q o) n (W q)
@@ -58,10 +57,16 @@ queue-all : (κ : Kind) (P : ℕ → Type 0) → ((r : ℕ) → 1 ≤ readsN r �
 unfolding Queues readsN givesN
 queue-all (line p o ss) P f g = (f p (bit-one (eqb p p) (eqb-same p p refl)), g o (bit-one (eqb o o) (eqb-same o o refl)))
 queue-all (latest p k h) P f g = f p (bit-one (eqb p p) (eqb-same p p refl))
-queue-all (double p o o′) P f g =
-    (f p (bit-one (eqb p p) (eqb-same p p refl)), g o (omega (arith, bit-one (eqb o o) (eqb-same o o refl))), g o′ (omega (arith, bit-one (eqb o′ o′) (eqb-same o′ o′ refl))))
-queue-all (deal c p os) P f g = (f p (bit-one (eqb p p) (eqb-same p p refl)), λ j h. g (getD os j 0) (occ-one (getD os j 0) os (one-of os j h)))
-queue-all (gather c o is) P f g = (g o (bit-one (eqb o o) (eqb-same o o refl)), λ j h. f (getD is j 0) (occ-one (getD is j 0) is (one-of is j h)))
+queue-all (double p o o′) P f g = (
+  f p (bit-one (eqb p p) (eqb-same p p refl)),
+  g o (omega (arith, bit-one (eqb o o) (eqb-same o o refl))),
+  g o′
+      (omega (arith, bit-one (eqb o′ o′) (eqb-same o′ o′ refl))),
+)
+queue-all (deal c p os) P f g =
+    (f p (bit-one (eqb p p) (eqb-same p p refl)), λ j h. g (getD os j 0) (occ-one (getD os j 0) os (one-of os j h)))
+queue-all (gather c o is) P f g =
+    (g o (bit-one (eqb o o) (eqb-same o o refl)), λ j h. f (getD is j 0) (occ-one (getD is j 0) is (one-of is j h)))
 
 sum-ext : (n : ℕ) (f g : ℕ → ℕ) → ((k : ℕ) → k < n → f k ≡ g k) → sum n f ≡ sum n g
 unfolding sum
@@ -81,7 +86,8 @@ weq-own (double p o o′) W w h =
     go : (b : Bool) → cond (b || true) (W p) (W o′) ≡ W p
     go true = refl
     go false = refl
-weq-own (deal c p os) W w h = λ j l. rw (occ-false p os (h p (bit-one (eqb p p) (eqb-same p p refl))), one-of os j l) (rounded-up (W p) (length os) j w l)
+weq-own (deal c p os) W w h = λ j l.
+    rw (occ-false p os (h p (bit-one (eqb p p) (eqb-same p p refl))), one-of os j l) (rounded-up (W p) (length os) j w l)
 weq-own (gather c o is) W w h =
     rw (eqb-same o o refl) (sum-ext (length is) (λ j. W (getD is j 0)) (λ j. upn o (sum (length is) (λ j. W (getD is j 0))) W (getD is j 0))
     (λ j l. rw (bit-false (eqb (getD is j 0) o) (h (getD is j 0) (occ-one (getD is j 0) is (one-of is j l))))))
@@ -92,13 +98,16 @@ weq-same (line p o ss) W W′ q e = rw (q .0, q .1) e
 weq-same (latest p k f) W W′ q e = tt
 weq-same (double p o o′) W W′ q e = rw (q .0, q .1, q .2) e
 weq-same (deal c p os) W W′ q e = λ j h. rw (q .0, q .1 j h) (e j h)
-weq-same (gather c o is) W W′ q e = rw (q .0) (e ∙ sum-ext (length is) (λ j. W (getD is j 0)) (λ j. W′ (getD is j 0)) (λ j h. sym (q .1 j h)))
+weq-same (gather c o is) W W′ q e =
+    rw (q .0) (e ∙ sum-ext (length is) (λ j. W (getD is j 0)) (λ j. W′ (getD is j 0)) (λ j h. sym (q .1 j h)))
 
-pub worst-all : (ops : List Kind) (W : ℕ → ℕ) → Ord ops → All Ways ops → ((q : ℕ) → tot (givesN q) ops ≤ 1) → All (λ κ. WEq κ (worstOf W ops)) ops
+pub worst-all : (ops : List Kind) (W : ℕ → ℕ) → Ord ops → All Ways ops → ((q : ℕ) → tot (givesN q) ops ≤ 1)
+    → All (λ κ. WEq κ (worstOf W ops)) ops
 unfolding worstOf tot
 worst-all [] W o w d = none-left
 worst-all (κ ∷ κs) W o w d = also {x = κ}
     (weq-same κ (wput κ W) (worstOf (wput κ W) κs)
-    (queue-all κ (λ r. worstOf (wput κ W) κs r ≡ wput κ W r) (λ r h. worst-frame κs (wput κ W) r (omega (arith, ord-head o r h))) (λ r h. worst-frame κs (wput κ W) r (omega (arith, d r))))
+    (queue-all κ (λ r. worstOf (wput κ W) κs r ≡ wput κ W r) (λ r h. worst-frame κs (wput κ W) r (omega (arith, ord-head o r h)))
+    (λ r h. worst-frame κs (wput κ W) r (omega (arith, d r))))
     (weq-own κ W (first w) (λ q h. omega (arith, ord-head o q h))))
     (worst-all κs (wput κ W) (ord-rest o) (rest w) (λ q. omega (arith, d q)))

@@ -1,0 +1,45 @@
+-- The instance of demand 3: everything that it asks of the two sides is computed.
+-- Assumes nothing.
+use mathlib.Core.Path.{_≡_, refl}
+use mathlib.Core.Bool.{true}
+use Rattle.step.specs.Step.{stepNames, stepVariable, unusedZ, fieldPlace, stepPlaces, blank}
+use Rattle.operator.specs.Memory.{tidyAs, memoryNumber, vacant}
+use Rattle.judge.specs.Judge.{four, five, six, seven, judgeBy, whole}
+use Rattle.format.specs.Head.{headGood}
+use Rattle.sheet.specs.Check.{checkFrom, ending, checkOf}
+use Rattle.counts.specs.Worst.{feedGood}
+use Rattle.counts.specs.Answers.{worstOf}
+use Rattle.store.specs.Store.{part, withPart, fields, firstOf}
+use Rattle.store.specs.Queues.{encodeItems, queuePart, storeOf, itemsOf, queuesOf}
+use Rattle.store.specs.Quiet.{quietQueue, quietFrom}
+use Rattle.effect.specs.Flow.{does, stepped}
+use Rattle.effect.specs.Effect.{effect, waits, cursorGood}
+use Rattle.machine.specs.Machine.{commit, fireFrom, fireFirst, feedM, runFrom}
+use Rattle.machine.specs.Ready.{readySet}
+use Rattle.machine.specs.Numbers.{good}
+use Rattle.machine.specs.Calls.{freshOf, feedOf, runOf, readyOf}
+use Rattle.rewriter.specs.Rewrite.{split, reorder}
+use Rattle.rewriter.specs.Calls.{splitOf, reorderOf}
+use Rattle.order.specs.Order.{calmSheet, Made, as-is, splitted, reordered}
+use Rattle.order.specs.Demand.{GoodSide, SameFeeds, Agreed}
+use Rattle.order.proofs.DemandThree.{demand-3}
+use Rattle.order.specs.Instance.{sheetA, remadeA, plainSide, remadeSide}
+
+-- what demand 3 asks of the two sides
+pub instance-met :
+    (calmSheet sheetA ≡ true) × Made sheetA remadeA × GoodSide plainSide × GoodSide remadeSide × SameFeeds plainSide remadeSide
+unfolding stepNames stepVariable unusedZ fieldPlace stepPlaces blank tidyAs memoryNumber vacant four five six seven judgeBy whole
+    headGood checkFrom ending checkOf feedGood worstOf part withPart fields firstOf encodeItems queuePart storeOf itemsOf queuesOf
+    quietQueue quietFrom does stepped effect waits cursorGood commit fireFrom fireFirst feedM runFrom readySet good freshOf feedOf
+    runOf readyOf split reorder splitOf reorderOf
+instance-met = (
+  refl,
+  splitted (reordered as-is 0 refl) 0 2 refl,
+  record { fresh = refl; wide = refl; inputs = refl; roomy = refl; rest = refl },
+  record { fresh = refl; wide = refl; inputs = refl; roomy = refl; rest = refl },
+  λ q. refl,
+)
+
+-- so it speaks of them
+pub instance : Agreed plainSide remadeSide
+instance = demand-3 plainSide remadeSide (instance-met .0) (instance-met .1) (instance-met .2) (instance-met .3) (instance-met .4)

@@ -1,0 +1,56 @@
+-- The table of slips, computed; and that the rewriter, the calm test and the ready set do not make them.
+-- Assumes nothing.
+use mathlib.Core.Path.{_≡_, refl}
+use mathlib.Core.Bool.{true, false}
+use Rattle.lists.specs.Lists.{all}
+use Rattle.step.specs.Step.{stepNames, stepVariable, unusedZ, fieldPlace, stepPlaces, blank}
+use Rattle.operator.specs.Memory.{tidyAs, memoryNumber, vacant}
+use Rattle.judge.specs.Judge.{four, five, six, seven, judgeBy, whole}
+use Rattle.format.specs.Head.{headGood}
+use Rattle.sheet.specs.Answer.{accepted, refused}
+use Rattle.sheet.specs.Sheet.{viewSheet}
+use Rattle.sheet.specs.Check.{checkFrom, ending, checkOf}
+use Rattle.counts.specs.Calm.{isCalm}
+use Rattle.store.specs.Store.{part, withPart, fields, firstOf}
+use Rattle.store.specs.Queues.{encodeItems, queuePart, storeOf, itemsOf, queuesOf}
+use Rattle.store.specs.Quiet.{quietQueue, quietFrom}
+use Rattle.effect.specs.Flow.{does, stepped}
+use Rattle.effect.specs.Effect.{effect, waits, cursorGood}
+use Rattle.machine.specs.Machine.{commit, fireFrom, fireFirst, runFrom}
+use Rattle.machine.specs.Ready.{readySet}
+use Rattle.machine.specs.Numbers.{good}
+use Rattle.machine.specs.Calls.{fireOf, runOf, readyOf}
+use Rattle.rewriter.specs.Rewrite.{split, reorder}
+use Rattle.rewriter.specs.Calls.{splitOf, reorderOf}
+use Rattle.order.specs.Instance.{sheetA}
+use Rattle.order.specs.Slips.{slips, shows, keepSplit, stuck, counting, countSplit, copying, restless}
+
+pub slips-show : all shows slips ≡ true
+unfolding stepNames stepVariable unusedZ fieldPlace stepPlaces blank tidyAs memoryNumber vacant four five six seven judgeBy whole
+    headGood checkFrom ending checkOf part withPart fields firstOf encodeItems queuePart storeOf itemsOf queuesOf quietQueue
+    quietFrom does stepped effect waits cursorGood commit fireFrom fireFirst runFrom readySet good runOf readyOf
+slips-show = refl
+
+-- the rewriter refuses all three rewritings
+pub rewritings-refused :
+    (splitOf sheetA 0 2 .answer ≡ refused 17) × (splitOf counting 0 2 .answer ≡ refused 17) × (reorderOf copying 0 .answer ≡ refused 17)
+unfolding stepNames stepVariable unusedZ fieldPlace stepPlaces blank tidyAs memoryNumber vacant four five six seven judgeBy whole
+    headGood checkFrom ending checkOf split reorder splitOf reorderOf
+rewritings-refused = (refl, refl, refl)
+
+-- the split Count and the sheet of Latest and Stamp are accepted, and not calm
+pub accepted-not-calm :
+    (checkOf countSplit ≡ accepted) × (isCalm (viewSheet countSplit) ≡ false)
+    × (checkOf restless ≡ accepted) × (isCalm (viewSheet restless) ≡ false)
+unfolding stepNames stepVariable unusedZ fieldPlace stepPlaces blank tidyAs memoryNumber vacant four five six seven judgeBy whole
+    headGood checkFrom ending checkOf
+accepted-not-calm = (refl, refl, refl, refl)
+
+-- the gather of the split Keep has an item in queue 5 and waits for one in queue 6, which is empty
+pub gather-waits :
+    (fireOf keepSplit (stuck .state) (stuck .store) 5 .answer ≡ refused 11)
+    × (fireOf keepSplit (stuck .state) (stuck .store) 6 .answer ≡ refused 10)
+unfolding stepNames stepVariable unusedZ fieldPlace stepPlaces blank tidyAs memoryNumber vacant four five six seven judgeBy whole
+    headGood checkFrom ending checkOf part withPart fields firstOf encodeItems queuePart storeOf itemsOf queuesOf quietQueue
+    quietFrom does stepped effect waits cursorGood commit fireFrom fireFirst runFrom good runOf fireOf
+gather-waits = (refl, refl)

@@ -1,0 +1,142 @@
+-- Two lines that exchange their steps: the four tests, the refusals in order, and the sheet in memory that comes of it.
+-- Assumes nothing.
+use mathlib.Core.Path.{_≡_, refl, sym, ap, ap₂, _∙_}
+use mathlib.Core.Bool.{Bool, true, false, cond, _&&_}
+use mathlib.Core.List.{List, [], _∷_, _++_, map}
+use Prim.Native.Nat.{ℕ, zero, suc, _<_, _≤_}
+use native.Mathlib.Omega.{arith}
+use lib.Dec.{ltb}
+use lib.ListN.{length, set, length-set, length-map}
+use borrow.Author.Tests.{lt-ltb, le-ltb}
+use Rattle.lists.specs.Lists.{all, pad}
+use Rattle.lists.proofs.Tests.{all-append}
+use Rattle.step.specs.declared.Step.{Step}
+use Rattle.operator.specs.Op.{Op, line}
+use Rattle.operator.specs.Memory.{view, memory, noOperator, stepsIn}
+use Rattle.operator.specs.declared.Operator.{Operator}
+use Rattle.format.specs.Head.{OPERATORS}
+use Rattle.sheet.specs.declared.Sheet.{Sheet}
+use Rattle.sheet.specs.Answer.{accepted}
+use Rattle.sheet.specs.Sheet.{opAt, viewSheet, memorySheet, HeldSheet}
+use Rattle.sheet.specs.Check.{checkOf}
+use Rattle.machine.proofs.AbleOf.{ranges-of-accepted, ops-many, ops-at}
+use Rattle.rewriter.specs.Rewrite.{refuse, rewritten, isLine, inOf, outOf, stepsOf, at, nextOf, toLine}
+use Rattle.rewriter.specs.Rewrite.{touchesNone, leaves, exchanged, reorder}
+use Rattle.rewriter.specs.Working.{mayExchange}
+use Rattle.rewriter.proofs.InMemory.{places, sheet-eq, operators-back}
+use Rattle.rewriter.proofs.Lines.{line-steps}
+use Rattle.rewriter.proofs.Pairs.{Pair}
+
+-- the tests of `apart`, one law for each return
+four-first : (a b c d : Bool) → a ≡ false → false ≡ ((a && b) && (c && d))
+four-first a b c d e = rw e
+
+four-second : (a b c d : Bool) → a ≡ true → b ≡ false → false ≡ ((a && b) && (c && d))
+four-second a b c d e f = rw (e, f)
+
+four-third : (a b c d : Bool) → a ≡ true → b ≡ true → c ≡ false → false ≡ ((a && b) && (c && d))
+four-third a b c d e f g = rw (e, f, g)
+
+four-fourth : (a b c d : Bool) → a ≡ true → b ≡ true → c ≡ true → d ≡ ((a && b) && (c && d))
+four-fourth a b c d e f g = rw (e, f, g)
+
+module _ (o p : Operator) (h : isLine (view o) ≡ true) (k : isLine (view p) ≡ true) where
+  abbrev ss : List Step
+  ss = stepsIn (o .count) (o .steps)
+
+  abbrev ts : List Step
+  ts = stepsIn (p .count) (p .steps)
+
+  four : ((all touchesNone ss && all touchesNone ts) && (leaves ss ts && leaves ts ss)) ≡ mayExchange (view o) (view p)
+  four =
+      sym
+      (ap₂ (λ (x y : List Step). all touchesNone (x ++ y) && (leaves x y && leaves y x)) (line-steps o h) (line-steps p k)
+      ∙ ap (λ (b : Bool). b && (leaves ss ts && leaves ts ss)) (all-append touchesNone ss ts))
+
+  pub apart-first : all touchesNone ss ≡ false → false ≡ mayExchange (view o) (view p)
+  apart-first e = four-first (all touchesNone ss) (all touchesNone ts) (leaves ss ts) (leaves ts ss) e ∙ four
+
+  pub apart-second : all touchesNone ss ≡ true → all touchesNone ts ≡ false → false ≡ mayExchange (view o) (view p)
+  apart-second e f = four-second (all touchesNone ss) (all touchesNone ts) (leaves ss ts) (leaves ts ss) e f ∙ four
+
+  pub apart-third : all touchesNone ss ≡ true → all touchesNone ts ≡ true → leaves ss ts ≡ false → false ≡ mayExchange (view o) (view p)
+  apart-third e f g = four-third (all touchesNone ss) (all touchesNone ts) (leaves ss ts) (leaves ts ss) e f g ∙ four
+
+  pub apart-fourth : all touchesNone ss ≡ true → all touchesNone ts ≡ true → leaves ss ts ≡ true → leaves ts ss ≡ mayExchange (view o) (view p)
+  apart-fourth e f g = four-fourth (all touchesNone ss) (all touchesNone ts) (leaves ss ts) (leaves ts ss) e f g ∙ four
+
+-- the refusals of reorder
+module _ (t : Sheet) (i : ℕ) where
+  reorder-by : (p q r : Bool) → ltb i (length (viewSheet t .ops)) ≡ p → (isLine (at (viewSheet t) i) && toLine (viewSheet t) i) ≡ q →
+      mayExchange (at (viewSheet t) i) (at (viewSheet t) (nextOf (viewSheet t) i)) ≡ r →
+      reorder (viewSheet t) i
+      ≡ cond p (cond q (cond r (rewritten (exchanged (viewSheet t) i (nextOf (viewSheet t) i))) (refuse 17)) (refuse 15)) (refuse 14)
+  unfolding reorder
+  reorder-by p q r e f g = rw (e, f, g)
+
+  pub reorder-past : t .count ≤ i → reorder (viewSheet t) i ≡ refuse 14
+  reorder-past l = reorder-by false _ _ (le-ltb i (length (viewSheet t .ops)) (omega (arith, ops-many t))) refl refl
+
+  module _ (l : i < t .count) where
+    within : ltb i (length (viewSheet t .ops)) ≡ true
+    within = lt-ltb i (length (viewSheet t .ops)) (omega (arith, ops-many t))
+
+    pub reorder-alone : (isLine (at (viewSheet t) i) && toLine (viewSheet t) i) ≡ false → reorder (viewSheet t) i ≡ refuse 15
+    reorder-alone e = reorder-by true false _ within e refl
+
+    module _ (j : ℕ) (pair : Pair t i j) where
+      tested : (b : Bool) → mayExchange (view (opAt t i)) (view (opAt t j)) ≡ b →
+          mayExchange (at (viewSheet t) i) (at (viewSheet t) (nextOf (viewSheet t) i)) ≡ b
+      tested b e =
+          ap (λ (k : ℕ). mayExchange (at (viewSheet t) i) (at (viewSheet t) k)) (sym (pair .next))
+          ∙ ap₂ mayExchange (ops-at t i l) (ops-at t j (pair .below)) ∙ e
+
+      pub reorder-forbidden : mayExchange (view (opAt t i)) (view (opAt t j)) ≡ false → reorder (viewSheet t) i ≡ refuse 17
+      reorder-forbidden e = reorder-by true true false within (pair .test) (tested false e)
+
+      pub reorder-done : mayExchange (view (opAt t i)) (view (opAt t j)) ≡ true → reorder (viewSheet t) i ≡ rewritten (exchanged (viewSheet t) i j)
+      reorder-done e =
+          reorder-by true true true within (pair .test) (tested true e)
+          ∙ ap (λ (k : ℕ). rewritten (exchanged (viewSheet t) i k)) (sym (pair .next))
+
+-- a store among the places is a store in the list
+map-set : {A B : Type 0} (f : A → B) (l : List A) (i : ℕ) (x : A) → map f (set l i x) ≡ set (map f l) i (f x)
+map-set f [] i x = refl
+map-set f (y ∷ l) zero x = refl
+map-set {B = B} f (y ∷ l) (suc i) x = ap (λ (r : List B). f y ∷ r) (map-set f l i x)
+
+set-pad : {A : Type 0} (n : ℕ) (d : A) (l : List A) (i : ℕ) (x : A) → i < length l → length l ≤ n → set (pad n d l) i x ≡ pad n d (set l i x)
+set-pad n d [] i x h b = absurd (omega arith)
+set-pad zero d (y ∷ l) i x h b = absurd (omega arith)
+set-pad (suc n) d (y ∷ l) zero x h b = refl
+set-pad {A} (suc n) d (y ∷ l) (suc i) x h b = ap (λ (r : List A). y ∷ r) (set-pad n d l i x (omega arith) (omega arith))
+
+pub set-places : (os : List Op) (i : ℕ) (x : Op) → i < length os → length os ≤ OPERATORS → set (places os) i (memory x) ≡ places (set os i x)
+set-places os i x h b =
+    set-pad OPERATORS noOperator (map memory os) i (memory x) (omega (arith, length-map os memory)) (omega (arith, length-map os memory))
+    ∙ ap (pad OPERATORS noOperator) (sym (map-set memory os i x))
+
+-- the sheet in memory
+module _ (t : Sheet) (h : checkOf t ≡ accepted) (held : HeldSheet t) (i j : ℕ) (l : i < t .count) (b : j < t .count) where
+  -- operator i's queues with operator j's steps
+  abbrev mixed : ℕ → ℕ → Op
+  mixed i j = line (inOf (view (opAt t i))) (outOf (view (opAt t i))) (stepsOf (view (opAt t j)))
+
+  pub exchanged-places : (x y : Operator) → x ≡ memory (mixed i j) → y ≡ memory (mixed j i) →
+      _≡_ {A = Sheet}
+      (record { inputs = t .inputs; queues = t .queues; variables = t .variables; count = t .count; operators = set (set (t .operators) i x) j y })
+      (memorySheet (exchanged (viewSheet t) i j))
+  exchanged-places x y e d =
+      let os = viewSheet t .ops in
+      let n = ops-many t in
+      let r = ranges-of-accepted t h .count in
+      let one : set (t .operators) i x ≡ places (set os i (mixed i j)) =
+      ap₂ (λ (u : List Operator) (v : Operator). set u i v) (sym (operators-back t h held)) e
+      ∙ set-places os i (mixed i j) (omega arith) (omega arith) in
+      let m = length-set os i (mixed i j) in
+      let two : set (set (t .operators) i x) j y ≡ places (set (set os i (mixed i j)) j (mixed j i)) =
+      ap₂ (λ (u : List Operator) (v : Operator). set u j v) one d ∙ set-places (set os i (mixed i j)) j (mixed j i) (omega arith) (omega arith) in
+      let same : exchanged (viewSheet t) i j .ops ≡ set (set os i (mixed i j)) j (mixed j i) =
+      ap₂ (λ (u v : Op). set (set os i (line (inOf u) (outOf u) (stepsOf v))) j (line (inOf v) (outOf v) (stepsOf u)))
+      (ops-at t i l) (ops-at t j b) in
+      sheet-eq refl refl refl (sym (ap length same ∙ length-set (set os i (mixed i j)) j (mixed j i) ∙ m ∙ n)) (two ∙ ap places (sym same))
