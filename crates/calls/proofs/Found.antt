@@ -21,10 +21,12 @@ use Rattle.sheet.specs.Answer.{accepted}
 use Rattle.sheet.specs.Sheet.{opAt, viewSheet}
 use Rattle.sheet.specs.Check.{checkOf}
 use Rattle.sheet.proofs.Laws.{read-below}
+use Rattle.sheet.proofs.Accepted.{ranges-of-accepted}
+use Rattle.sheet.proofs.Placed.{ops-many}
 use Rattle.machine.specs.declared.State.{State}
 use Rattle.machine.specs.Machine.{Machine, fireM}
 use Rattle.machine.specs.Working.{readerFrom, readersOf, Stands, Fit, fireFound}
-use Rattle.machine.proofs.AbleOf.{ranges-of-accepted, ops-many, fit-of-stands}
+use Rattle.machine.proofs.AbleOf.{fit-of-stands}
 use Rattle.machine.proofs.ReaderLaws.{isRead, reader-any, reader-found, reader-reads, fire-by-table}
 
 -- an operator that reads nothing, as what stands past the last

@@ -1,7 +1,6 @@
 -- The loop that runs a list of queues: what holds at its head, one turn, and its end.
 -- Assumes nothing.
 use mathlib.Core.Path.{_≡_, refl, sym, ap, _∙_, subst}
-use mathlib.Core.Bool.{Bool, true, false}
 use mathlib.Core.List.{List}
 use Prim.Native.Nat.{ℕ, _+_, _-_, _≤_, _<_, _%_}
 use native.Mathlib.Omega.{arith}
@@ -9,6 +8,7 @@ use lib.Dec.{ltb}
 use lib.ListN.{length, getD, drop, length-map}
 use lib.IntN.{ℤ}
 use Rattle.lists.specs.Lists.{bit}
+use Rattle.lists.proofs.Bits.{bit-le}
 use Rattle.operator.specs.Memory.{view}
 use Rattle.format.specs.Head.{VARIABLES, OPERATORS}
 use Rattle.sheet.specs.declared.Answer.{Answer}
@@ -30,10 +30,6 @@ use Rattle.calls.proofs.Found.{fire-as-found}
 
 abbrev pub ranWith : ℕ → ℕ → Machine → Ran
 ranWith fired skipped m = record { fired = fired; skipped = skipped; machine = m }
-
-bit-small : (b : Bool) → bit b ≤ 1
-bit-small true = omega arith
-bit-small false = omega arith
 
 -- k entries of the list are run: what is left to run gives the whole run, and each entry fired or was skipped
 pub record Running (t : Sheet) (st₀ : State) (s₀ : List ℤ) (l : List ℕ) (st : State) (s : List ℤ) (fired skipped k : ℕ) : Type 0 where
@@ -106,7 +102,7 @@ module _ (t : Sheet) (st₀ : State) (s₀ : List ℤ) (l : List ℕ) where
           left = ap (λ (x : Ran). runFrom (viewSheet t) (drop (k + 1) l) x) (f .ran)
               ∙ sym (run-next (viewSheet t) l k (ranWith fired skipped (decode st s)) b)
               ∙ r .left;
-          total = omega (arith, r .total, bit-small (isAccepted (paper answer)));
+          total = omega (arith, r .total, bit-le (isAccepted (paper answer)));
           within = omega arith;
         }
 

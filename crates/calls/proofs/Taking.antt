@@ -20,6 +20,8 @@ use Rattle.sheet.specs.declared.Sheet.{Sheet}
 use Rattle.sheet.specs.Answer.{accepted, paper}
 use Rattle.sheet.specs.Sheet.{viewSheet}
 use Rattle.sheet.specs.Check.{checkOf}
+use Rattle.sheet.proofs.Accepted.{ranges-of-accepted}
+use Rattle.sheet.proofs.Placed.{ops-many}
 use Rattle.store.specs.Store.{FIELDS, QUEUES, part, firstOf}
 use Rattle.store.specs.Queues.{itemsOf}
 use Rattle.store.specs.declared.Item.{Item}
@@ -29,7 +31,6 @@ use Rattle.machine.specs.Machine.{Machine, isOutput, Take, none, takeFrom, take
 use Rattle.machine.specs.Numbers.{decode}
 use Rattle.machine.specs.Calls.{TakeCall, savedTake, noItem}
 use Rattle.machine.specs.Working.{readerFrom, readersOf, Raw, raw, takeRaw, Stands, TakeAnswers}
-use Rattle.machine.proofs.AbleOf.{ranges-of-accepted, ops-many}
 use Rattle.machine.proofs.Bridge.{holds-of-good, take-holds, head-of-count, empty-of-count}
 use Rattle.machine.proofs.Good.{machine-of-good}
 use Rattle.machine.proofs.ReaderLaws.{reader-any, reader-below, output-by-reader}

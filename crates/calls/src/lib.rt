@@ -160,7 +160,7 @@ pub fn ready_known(t: Sheet, state: State, store: &[i32]) -> u32
 {
     let rs = reader::readers(t);
     let mut set: u32 = 0;
-    let mut q: u8 = 24;
+    let mut q: u8 = decode::QUEUES;
     while 0 < q {
         q -= 1;
         let i = reader::reader_at(rs, q);

@@ -25,153 +25,18 @@ use Rattle.machine.specs.Calls.{fireOf, feedOf, takeOf, runOf, readyOf}
 use Rattle.cases.specs.Case.{Rights}
 use Rattle.cases.specs.Table.{table}
 
+-- one row and then the rest
+infixr 5 _&_
+_&_ : {A B : Type 0} → A → B → A × B
+a & b = (a, b)
+
 pub cases : Rights table
 unfolding shortOf shortBytes bitsOf bitsBytes funcOf stepNames stepVariable unusedZ fieldPlace stepPlaces blank stepBytes stepOf tidyAs memoryNumber
     vacant four five six seven judgeBy whole kindOf recordBytes cut bodyGood taken opBytes headGood headNumber checkFrom ending checkOf readFrom frontOf
     readOf writeOf feedGood worstOf part withPart fields firstOf encodeItems queuePart storeOf itemsOf queuesOf quietQueue quietFrom does stepped effect
     waits cursorGood commit fireFrom fireFirst feedM takeM runFrom readySet good fireOf feedOf takeOf runOf readyOf fuse split reorder fuseOf splitOf reorderOf
-cases = (
-  refl,
-  (
-    refl,
-    (
-      refl,
-      (
-        refl,
-        (
-          refl,
-          (
-            refl,
-            (
-              refl,
-              (
-                (refl, refl),
-                (
-                  (refl, refl),
-                  (
-                    refl,
-                    (
-                      refl,
-                      (
-                        refl,
-                        (
-                          refl,
-                          (
-                            refl,
-                            (
-                              refl,
-                              (
-                                refl,
-                                (
-                                  refl,
-                                  (
-                                    (refl, refl),
-                                    (
-                                      refl,
-                                      (
-                                        refl,
-                                        (
-                                          refl,
-                                          (
-                                            refl,
-                                            (
-                                              refl,
-                                              (
-                                                refl,
-                                                (
-                                                  refl,
-                                                  (
-                                                    refl,
-                                                    (
-                                                      refl,
-                                                      (
-                                                        refl,
-                                                        (
-                                                          refl,
-                                                          (
-                                                            refl,
-                                                            (
-                                                              refl,
-                                                              (
-                                                                refl,
-                                                                (
-                                                                  refl,
-                                                                  (
-                                                                    refl,
-                                                                    (
-                                                                      refl,
-                                                                      (
-                                                                        refl,
-                                                                        (
-                                                                          refl,
-                                                                          (
-                                                                            refl,
-                                                                            (
-                                                                              refl,
-                                                                              (
-                                                                                refl,
-                                                                                (
-                                                                                  refl,
-                                                                                  (
-                                                                                    refl,
-                                                                                    (
-                                                                                      refl,
-                                                                                      (
-                                                                                        refl,
-                                                                                        (
-                                                                                          refl,
-                                                                                          (
-                                                                                            refl,
-                                                                                            (
-                                                                                              refl,
-                                                                                              (
-                                                                                                refl,
-                                                                                                tt,
-                                                                                              ),
-                                                                                            ),
-                                                                                          ),
-                                                                                        ),
-                                                                                      ),
-                                                                                    ),
-                                                                                  ),
-                                                                                ),
-                                                                              ),
-                                                                            ),
-                                                                          ),
-                                                                        ),
-                                                                      ),
-                                                                    ),
-                                                                  ),
-                                                                ),
-                                                              ),
-                                                            ),
-                                                          ),
-                                                        ),
-                                                      ),
-                                                    ),
-                                                  ),
-                                                ),
-                                              ),
-                                            ),
-                                          ),
-                                        ),
-                                      ),
-                                    ),
-                                  ),
-                                ),
-                              ),
-                            ),
-                          ),
-                        ),
-                      ),
-                    ),
-                  ),
-                ),
-              ),
-            ),
-          ),
-        ),
-      ),
-    ),
-  ),
-)
+cases =
+    refl & refl & refl & refl & refl & refl & refl & refl & (refl, refl) & (refl, refl) & refl & refl &
+    refl & refl & refl & refl & refl & refl & (refl, refl) & refl & refl & refl & refl & refl & refl & refl &
+    refl & refl & refl & refl & refl & refl & refl & refl & refl & refl & refl & refl & refl & refl & refl &
+    refl & refl & refl & refl & refl & refl & refl & refl & tt

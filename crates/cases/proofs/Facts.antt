@@ -1,17 +1,21 @@
 -- Sheet A passes the check, is calm, and is a sheet that the program can hold; so it is written and read back as itself.
+-- And which steps split and reorder take, by the masks of the step table.
 -- Assumes nothing.
 use mathlib.Core.Path.{_≡_, refl, ap, _∙_, sym}
-use mathlib.Core.Bool.{true}
-use mathlib.Core.List.{List, [], _∷_}
+use mathlib.Core.Bool.{true, false, _&&_}
+use mathlib.Core.List.{List, [], _∷_, map}
 use Prim.Native.Nat.{ℕ, zero, suc, _<_, _≤_}
 use native.Mathlib.Omega.{arith}
 use lib.Dec.{lit<, lit≤}
 use lib.ListN.{length, getD, take, replicate, getD-replicate}
+use lib.IntN.{pos}
 use mir.Syntax.{w32}
 use mir.Val.{SFits}
 use borrow.Author.Needs.{sfits-of}
 use Rattle.number.specs.Number.{shortBytes, bitsBytes}
 use Rattle.step.specs.Step.{stepNames, stepVariable, unusedZ, fieldPlace, stepPlaces, noStep, blank, stepBytes}
+use Rattle.step.specs.declared.Func.{Func}
+use Rattle.step.specs.declared.Func.the-variants.{Keep, Add, Copy, Count, Stamp}
 use Rattle.step.specs.declared.Step.{Step}
 use Rattle.operator.specs.Memory.{tidyAs, memoryNumber, vacant, noOperator, Held}
 use Rattle.operator.proofs.Held.{held-no-operator}
@@ -25,7 +29,9 @@ use Rattle.codec.specs.Read.{readOf}
 use Rattle.codec.specs.Write.{sheetBytes, Writing, writeOf}
 use Rattle.codec.proofs.Back.{write-of-room}
 use Rattle.counts.specs.Calm.{isCalm}
-use Rattle.cases.specs.SheetA.{lineOf, keepTwo, lessFive, sheetA}
+use Rattle.rewriter.specs.Rewrite.{touchesNone, writesSome}
+use Rattle.order.specs.Instance.{keepTwo, lessFive}
+use Rattle.cases.specs.SheetA.{lineOf, sheetA}
 use Rattle.cases.proofs.Theorems.{read-of-written}
 
 pub sheet-a-accepted : checkOf sheetA ≡ accepted
@@ -105,3 +111,16 @@ pub sheet-a-again : readOf (take 44 (writeOf sheetA lent .buffer)) ≡ record { 
 sheet-a-again =
     ap (λ (n : ℕ). readOf (take n (writeOf sheetA lent .buffer))) (sym sheet-a-length)
     ∙ read-of-written sheetA lent sheet-a-held sheet-a-accepted sheet-a-room
+
+-- what the masks of the step table come to: of Keep, Add, Copy, Count and Stamp split takes Add and Copy, reorder the first three
+abbrev pub functions : List Func
+functions = Keep ∷ Add ∷ Copy ∷ Count ∷ Stamp ∷ []
+
+abbrev pub stepBy : Func → Step
+stepBy f = record { func = f; variable = 0; p = 0; r = 0; low = pos 0; high = pos 0 }
+
+pub split-takes : map (λ (f : Func). touchesNone (stepBy f) && writesSome (stepBy f)) functions ≡ false ∷ true ∷ true ∷ false ∷ false ∷ []
+split-takes = refl
+
+pub reorder-takes : map (λ (f : Func). touchesNone (stepBy f)) functions ≡ true ∷ true ∷ true ∷ false ∷ false ∷ []
+reorder-takes = refl

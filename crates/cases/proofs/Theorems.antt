@@ -92,6 +92,6 @@ pub use Rattle.order.proofs.OneRest.{one-rest-of-calm}
 -- from any good state of an accepted sheet some list ends at rest
 pub use Rattle.order.proofs.Reaches.{reaches-rest}
 -- demand 3 speaks of sheet A, and of A reordered and then split, each fired in an order of its own
-pub use Rattle.order.proofs.Instance.{instance}
+pub use Rattle.order.proofs.Instance.{instance-met, instance}
 -- what goes wrong without the conditions: the paper's four slips, and a sheet that is not calm
-pub use Rattle.order.proofs.Slips.{slips-show, rewritings-refused, accepted-not-calm, gather-waits}
+pub use Rattle.order.proofs.Slips.{slips-show, rows-are-fed, rewritings-refused, accepted-not-calm, dropping-calm, gather-waits}

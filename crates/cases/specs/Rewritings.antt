@@ -1,18 +1,14 @@
 -- Sheets for the cases on rewriting.
 use mathlib.Core.List.{List, [], _∷_, _++_}
 use Prim.Native.Nat.{ℕ}
-use lib.IntN.{pos, negsuc}
+use lib.IntN.{pos}
 use Rattle.step.specs.declared.Func.the-variants.{Keep}
 use Rattle.step.specs.declared.Step.{Step}
 use Rattle.operator.specs.Op.{Op, line, double, deal, gather}
 use Rattle.sheet.specs.declared.Sheet.{Sheet}
 use Rattle.sheet.specs.Sheet.{memorySheet}
-use Rattle.cases.specs.SheetA.{keepTwo, lessFive}
+use Rattle.order.specs.Instance.{sheetOf, keepTwo, lessFive}
 use Rattle.cases.specs.Firings.{addOne}
-
--- a sheet by its head and its operators
-abbrev pub sheetOf : ℕ → ℕ → ℕ → List Op → Sheet
-sheetOf i q v os = memorySheet (record { inputs = i; queues = q; variables = v; ops = os })
 
 -- sheet A fused, with its bytes; reordered; its Add line split two ways
 abbrev pub fusedA : Sheet

@@ -1,16 +1,16 @@
 -- Sheet A, its bytes and the sheet that they hold; and the sheet of Latest and Stamp on one variable.
 use mathlib.Core.List.{List, [], _∷_}
 use Prim.Native.Nat.{ℕ}
-use lib.IntN.{pos, negsuc}
+use lib.IntN.{pos}
 use lib.ListN.{replicate}
-use mathlib.Core.List.{_++_}
 use Rattle.step.specs.Step.{noStep}
-use Rattle.step.specs.declared.Func.the-variants.{Keep, Add, Stamp}
+use Rattle.step.specs.declared.Func.the-variants.{Stamp}
 use Rattle.step.specs.declared.Step.{Step}
 use Rattle.operator.specs.Memory.{noOperator}
 use Rattle.operator.specs.declared.Kind.the-variants.{Line, Latest}
 use Rattle.operator.specs.declared.Operator.{Operator}
 use Rattle.sheet.specs.declared.Sheet.{Sheet}
+use Rattle.order.specs.Instance.{keepTwo, lessFive}
 
 abbrev pub bytesA : List ℕ
 bytesA =
@@ -42,12 +42,6 @@ latestOf p v f =
       outs = 0 ∷ 0 ∷ 0 ∷ 0 ∷ [];
       steps = noStep ∷ noStep ∷ noStep ∷ noStep ∷ [];
     }
-
-abbrev pub keepTwo : Step
-keepTwo = record { func = Keep; variable = 255; p = 0; r = 0; low = pos 2; high = pos 2 }
-
-abbrev pub lessFive : Step
-lessFive = record { func = Add; variable = 255; p = 1; r = 0; low = negsuc 4; high = pos 0 }
 
 abbrev pub stampZero : Step
 stampZero = record { func = Stamp; variable = 0; p = 0; r = 0; low = pos 0; high = pos 0 }

@@ -1,7 +1,6 @@
 -- The table of cases.
 use mathlib.Core.Bool.{true, false}
 use mathlib.Core.List.{List, [], _∷_, _++_}
-use Prim.Native.Nat.{ℕ}
 use lib.ListN.{take, replicate}
 use Rattle.sheet.specs.Answer.{accepted, refusedAt, refused}
 use Rattle.sheet.specs.Sheet.{noSheet}
@@ -31,8 +30,10 @@ worked = holding ([] ∷ [] ∷ (first ∷ second ∷ []) ∷ []) []
 
 abbrev pub table : List Case
 table =
+    -- A's bytes hold the sheet A that the instance of demand 3 speaks of
+    reads bytesA accepted Rattle.order.specs.Instance.sheetA
     -- sheet A is read, checked and written back; a byte past its 44 stays as it was
-    reads bytesA accepted sheetA
+    ∷ reads bytesA accepted sheetA
     ∷ checks sheetA accepted
     ∷ writes sheetA (replicate 44 170) accepted 44 bytesA
     ∷ writes sheetA (replicate 46 170) accepted 44 (bytesA ++ (170 ∷ 170 ∷ []))
@@ -73,11 +74,15 @@ table =
     ∷ feeds (lineOfSteps (addOne ∷ [])) (holding (many 63 ∷ []) []) 0 (of (pos 7)) accepted (holding (many 64 ∷ []) [])
     ∷ feeds (lineOfSteps (addOne ∷ [])) (holding (many 64 ∷ []) []) 0 (of (pos 7)) (refused 12) (holding (many 64 ∷ []) [])
     -- firing into a full queue is 12, but a dropped item fires
-    ∷ fires (lineOfSteps (addOne ∷ [])) (holding ((of (pos 1) ∷ []) ∷ many 64 ∷ []) []) 0 (refused 12) (holding ((of (pos 1) ∷ []) ∷ many 64 ∷ []) [])
-    ∷ fires (lineOfSteps (keep (pos 2) (pos 2) ∷ [])) (holding ((of (pos 1) ∷ []) ∷ many 64 ∷ []) []) 0 accepted (holding ([] ∷ many 64 ∷ []) [])
+    ∷ fires (lineOfSteps (addOne ∷ [])) (holding ((of (pos 1) ∷ []) ∷ many 64 ∷ []) []) 0 (refused 12)
+    (holding ((of (pos 1) ∷ []) ∷ many 64 ∷ []) [])
+    ∷ fires (lineOfSteps (keep (pos 2) (pos 2) ∷ [])) (holding ((of (pos 1) ∷ []) ∷ many 64 ∷ []) []) 0 accepted
+    (holding ([] ∷ many 64 ∷ []) [])
     -- a Count whose item is then dropped has counted; one that finds no room has not
-    ∷ fires (lineOfSteps (countFirst ∷ keep (pos 2) (pos 2) ∷ [])) (holding ((of (pos 1) ∷ []) ∷ []) []) 0 accepted (holding ([] ∷ []) (pos 1 ∷ []))
-    ∷ fires (lineOfSteps (countFirst ∷ [])) (holding ((of (pos 1) ∷ []) ∷ many 64 ∷ []) []) 0 (refused 12) (holding ((of (pos 1) ∷ []) ∷ many 64 ∷ []) [])
+    ∷ fires (lineOfSteps (countFirst ∷ keep (pos 2) (pos 2) ∷ [])) (holding ((of (pos 1) ∷ []) ∷ []) []) 0 accepted
+    (holding ([] ∷ []) (pos 1 ∷ []))
+    ∷ fires (lineOfSteps (countFirst ∷ [])) (holding ((of (pos 1) ∷ []) ∷ many 64 ∷ []) []) 0 (refused 12)
+    (holding ((of (pos 1) ∷ []) ∷ many 64 ∷ []) [])
     -- a queue that no operator reads, and one that is no queue, are 9
     ∷ fires sheetA (holding [] []) 2 (refused 9) (holding [] [])
     ∷ fires sheetA (holding [] []) 255 (refused 9) (holding [] [])

@@ -18,13 +18,14 @@ use Rattle.sheet.specs.declared.Sheet.{Sheet}
 use Rattle.sheet.specs.Answer.{Paper, accepted, refusedAt, isAccepted}
 use Rattle.sheet.specs.Sheet.{opAt, viewTo, viewSheet, memorySheet, HeldSheet}
 use Rattle.sheet.specs.Check.{Kept, kept, checkOf}
-use Rattle.sheet.proofs.Accepted.{Accepted}
+use Rattle.sheet.proofs.Accepted.{Accepted, facts-accepted}
 use Rattle.sheet.proofs.Placed.{view-back}
+use Rattle.sheet.proofs.InMemory.{memory-back}
 use Rattle.codec.specs.Read.{readFrom, headIn, Reading, readEnd, readOf}
 use Rattle.codec.specs.Write.{sheetBytes, writing, writeOf}
 use Rattle.codec.proofs.Follow.{withAll}
 use Rattle.codec.proofs.Chain.{read-chain}
-use Rattle.codec.proofs.InMemory.{accepted-memory, follow-view, fits-view, memory-back}
+use Rattle.codec.proofs.InMemory.{accepted-memory, follow-view, fits-view}
 use Rattle.codec.proofs.Answers.{read-good, read-ends, reading, Accepts, accepts-of-answer}
 
 -- the bytes of an accepted sheet are read as that sheet
@@ -50,7 +51,7 @@ read-of-bytes t held good =
     read-after-head (t .inputs) (t .queues) (t .variables) (length (a .ops)) chained (kept a []) head
     (ap (readFrom (length (a .ops)) (viewTo t 0)) (sym (append-nil chained)) ∙ read-chain (a .ops) (viewTo t 0) [] (follow-view t good) (fits-view t good held))
     ∙ ap (reading a) (read-ends a [] true true refl (good .defined))
-    ∙ ap (λ (x : Sheet). record { answer = accepted; sheet = x }) (memory-back t good held)
+    ∙ ap (λ (x : Sheet). record { answer = accepted; sheet = x }) (memory-back t (facts-accepted t good) held)
 
 -- a buffer with room for an accepted sheet gets its bytes at its front
 pub write-of-room : (t : Sheet) (l bytes : List ℕ) → checkOf t ≡ accepted → sheetBytes (viewSheet t) ≡ bytes → length bytes ≤ length l →

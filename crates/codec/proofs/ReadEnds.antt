@@ -4,7 +4,7 @@ use mathlib.Core.Path.{_≡_, refl, ap, _∙_, sym}
 use mathlib.Core.Logic.{⊎-elim}
 use mathlib.Core.Bool.{Bool, true, false, cond, not, _&&_}
 use mathlib.Core.List.{List, [], _∷_}
-use mathlib.Core.Option.{Option, some, none}
+use mathlib.Core.Option.{some, none}
 use Prim.Native.Nat.{ℕ, zero, suc, _+_, _-_, _≤_}
 use native.Mathlib.Omega.{arith}
 use lib.Dec.{eqb}
@@ -20,9 +20,10 @@ use Rattle.format.specs.Head.{OPERATORS, HEAD_BYTES, headNumber}
 use Rattle.format.proofs.Heads.{ranges-of-good, head-good-of-number}
 use Rattle.sheet.specs.declared.Answer.the-variants.{Done, RefusedAt, Refused}
 use Rattle.sheet.specs.declared.Sheet.{Sheet}
-use Rattle.sheet.specs.Answer.{Paper, paper, accepted, refusedAt, isAccepted}
+use Rattle.sheet.specs.Answer.{paper, accepted, refusedAt, isAccepted}
 use Rattle.sheet.specs.Sheet.{memorySheet, noSheet}
 use Rattle.sheet.specs.Check.{Kept, stopped, kept, ending}
+use Rattle.sheet.proofs.AnswerLaws.{paperRecord}
 use Rattle.codec.specs.declared.Front.{Front}
 use Rattle.codec.specs.declared.ReadSheet.{ReadSheet}
 use Rattle.codec.specs.Read.{numberAfter, readFrom, headIn, frontOf, frontAnswer, frontSheet, frontEnd, frontWhole, readEnd, readOf}
@@ -109,11 +110,6 @@ end-sheet true true n t = refl
 end-sheet true false n t = refl
 end-sheet false w n t = refl
 
--- the record that a refusal names
-abbrev recordOf : Paper → Option ℕ
-recordOf none = none
-recordOf (some x) = x .1
-
 module _ (s : List ℕ) (f : Front) (h : Fronts s f) where
   -- the answer, by how reading the head and the operators ended
   answer-as : (k : Kept) → frontOf s ≡ k → paper (f .answer) ≡ frontAnswer k
@@ -128,7 +124,7 @@ module _ (s : List ℕ) (f : Front) (h : Fronts s f) where
   -- no refusal of reading is without a record
   alone-as : (n : ℕ) (k : Kept) → frontOf s ≡ k → f .answer ≡ Refused n → ⊥
   alone-as n (stopped m p) e d =
-      let z : none ≡ some p = ap recordOf (ap paper (sym d) ∙ answer-as (stopped m p) e) in
+      let z : none ≡ some p = ap paperRecord (ap paper (sym d) ∙ answer-as (stopped m p) e) in
       let y : _≡_ {A = ℕ} 0 1 = cc in
       omega arith
   alone-as n (kept a rest) e d = let z = ap paper (sym d) ∙ answer-as (kept a rest) e in let y : _≡_ {A = ℕ} 0 1 = cc in omega arith

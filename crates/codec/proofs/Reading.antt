@@ -25,6 +25,7 @@ use Rattle.decode.specs.declared.Head.{Head}
 use Rattle.sheet.specs.declared.Sheet.{Sheet}
 use Rattle.sheet.specs.Sheet.{memorySheet}
 use Rattle.sheet.specs.Check.{stopped, kept, nextRecord}
+use Rattle.sheet.proofs.InMemory.{sheet-eq}
 use Rattle.codec.specs.Fronts.{headed}
 use Rattle.codec.specs.Read.{numberAfter, readFrom, headIn, frontOf}
 use Rattle.codec.proofs.Turns.{read-next, read-stop, read-end, memory-more}
@@ -114,11 +115,6 @@ read-starts {s} {h} u seen t z b k =
 refused-number : (a : Abstract) (x : Taken) (m : ℕ) → m ≡ refusalIn x → (m ≡ 0 → ⊥) → m ≡ numberAfter a x
 refused-number a (bad k) m e ne = e
 refused-number a (took o rest) m e ne = absurd (ne e)
-
-sheet-eq : {i i' q q' v v' n n' : ℕ} {os os' : List Operator} → i ≡ i' → q ≡ q' → v ≡ v' → n ≡ n' → os ≡ os' →
-    _≡_ {A = Sheet} (record { inputs = i; queues = q; variables = v; count = n; operators = os })
-    (record { inputs = i'; queues = q'; variables = v'; count = n'; operators = os' })
-sheet-eq a b c d e = cc
 
 sheet-more : (a : Abstract) (o : Op) (t : Sheet) (i : ℕ) → t ≡ memorySheet a → length (a .ops) ≡ i → i < OPERATORS →
     record { inputs = t .inputs; queues = t .queues; variables = t .variables; count = i + 1; operators = set (t .operators) i (memory o) }

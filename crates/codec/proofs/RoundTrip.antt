@@ -1,4 +1,4 @@
--- A sheet that is written and read back, from what the two calls ensure; and that every sheet that the program holds is `HeldSheet`.
+-- A sheet that is written and read back, from what the two calls ensure.
 -- Assumes nothing.
 use mathlib.Core.Path.{_≡_, refl, ap, _∙_, sym}
 use mathlib.Core.Logic.{⊎-elim}
@@ -7,14 +7,11 @@ use mathlib.Core.List.{List}
 use Prim.Native.Nat.{ℕ, _<_, _≤_}
 use native.Mathlib.Omega.{arith}
 use lib.ListN.{length, take, drop, length-append}
-use mir.Val.{Val}
 use Rattle.lists.proofs.Build.{order, never}
-use Rattle.operator.proofs.Held.{Owned, held-all}
-use Rattle.format.specs.Head.{OPERATORS}
 use Rattle.sheet.specs.declared.Answer.the-variants.{Done}
 use Rattle.sheet.specs.declared.Sheet.{Sheet}
 use Rattle.sheet.specs.Answer.{Paper, paper, accepted, refusedAt, isAccepted}
-use Rattle.sheet.specs.Sheet.{viewSheet, noSheet, missing, HeldSheet}
+use Rattle.sheet.specs.Sheet.{viewSheet, noSheet, HeldSheet}
 use Rattle.sheet.specs.Check.{checkOf}
 use Rattle.sheet.proofs.Accepted.{Accepted, Refuses, facts-accepted, check-answers}
 use Rattle.sheet.proofs.AnswerLaws.{accepted-apart}
@@ -27,12 +24,6 @@ use Rattle.codec.specs.Fronts.{Reads, Writes, Agains}
 use Rattle.codec.proofs.Back.{write-of-room}
 use Rattle.codec.proofs.Theorems.{read-of-written}
 use Rattle.codec.proofs.Writing.{written-accepted, written-refused, writing-short}
-
--- what owning a sheet tells of it
-pub held-sheet : (t : Sheet) (vs : List Val) → Owned sheet.the-field t vs → HeldSheet t
-held-sheet t vs p =
-    let ops = held-all OPERATORS (t .operators) _ (p .1 .1 .1 .1 .1 .1 .0) in
-    record { full = ops .0; each = λ i l. ops .1 i missing l }
 
 -- an accepted writing had a checked sheet, and room for it
 record Room (t : Sheet) (l : List ℕ) : Type 0 where

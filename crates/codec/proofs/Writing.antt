@@ -11,6 +11,7 @@ use borrow.Author.Tests.{le-leb, lt-leb}
 use Rattle.lists.specs.Lists.{chain}
 use Rattle.lists.proofs.Build.{build-length}
 use Rattle.lists.proofs.Sets.{sets-append, sets-front}
+use Rattle.lists.proofs.Chains.{chain-snoc}
 use Rattle.operator.specs.Memory.{view}
 use Rattle.format.specs.Record.{opBytes}
 use Rattle.format.specs.Head.{HEAD_BYTES, headBytes}
@@ -21,7 +22,6 @@ use Rattle.sheet.specs.declared.Sheet.{Sheet}
 use Rattle.sheet.specs.Answer.{Paper, paper, accepted, refusedAt, isAccepted}
 use Rattle.sheet.specs.Sheet.{opAt, viewTo, viewSheet}
 use Rattle.sheet.specs.Check.{checkOf}
-use Rattle.sheet.proofs.Once.{chain-snoc}
 use Rattle.codec.specs.declared.Written.{Written}
 use Rattle.codec.specs.Write.{sheetBytes, Writing, writing, writeOf}
 use Rattle.codec.specs.Fronts.{Writes}

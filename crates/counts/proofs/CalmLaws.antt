@@ -6,25 +6,14 @@ use mathlib.Core.Bool.{Bool, true, false, not, _||_}
 use mathlib.Core.List.{List, [], _∷_}
 use Prim.Native.Nat.{ℕ, zero, suc, _<_, _≤_}
 use native.Mathlib.Omega.{arith}
-use lib.Dec.{eqb}
 use lib.ListN.{length, getD}
-use borrow.Author.Tests.{eq-eqb, not-true}
+use borrow.Author.Tests.{not-true}
 use Rattle.lists.specs.Lists.{all, member}
 use Rattle.lists.proofs.Build.{never, order}
 use Rattle.lists.proofs.Tests.{both, both-of, neither, neither-of, all-member}
+use Rattle.lists.proofs.Members.{all-of-members}
 use Rattle.operator.specs.Op.{Op, Abstract, names}
 use Rattle.counts.specs.Calm.{calmFrom, isCalm}
-
--- what every member passes, all do
-pub all-of-members : (f : ℕ → Bool) (l : List ℕ) → ((k : ℕ) → member k l ≡ true → f k ≡ true) → all f l ≡ true
-all-of-members f [] h = refl
-all-of-members f (x ∷ l) h =
-    both-of (f x) (all f l) (h x (rw (eq-eqb x x refl)))
-    (all-of-members f l (λ k m. h k (either (eqb k x) (member k l) m)))
-  where
-    either : (a b : Bool) → b ≡ true → (a || b) ≡ true
-    either true b e = refl
-    either false b e = e
 
 -- no operator names a variable of d
 named-apart : (d : ℕ → Bool) (os : List Op) (o : Op) (i v : ℕ) → calmFrom d os ≡ true → i < length os → member v (names (getD os i o)) ≡ true → d v ≡ false

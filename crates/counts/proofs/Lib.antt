@@ -1,4 +1,3 @@
-pub mod Rest
 pub mod Bounds
 pub mod Turns
 pub mod CalmLaws

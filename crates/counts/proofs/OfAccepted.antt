@@ -1,4 +1,4 @@
--- What a match on the check's answer says, and what the loops over an accepted sheet's operators need of each: its count in range, its sizes, and names that have flags.
+-- What a match on the check's answer says, and what the loops over an accepted sheet's operators need of each: its sizes, and names that have flags.
 -- Assumes nothing.
 use mathlib.Core.Path.{_≡_, ap, _∙_, sym}
 use mathlib.Core.Bool.{true}
@@ -7,28 +7,24 @@ use native.Mathlib.Omega.{arith}
 use lib.Dec.{ltb}
 use borrow.Author.Tests.{lt-ltb}
 use Rattle.lists.specs.Lists.{all}
+use Rattle.lists.proofs.Members.{all-of-members}
 use Rattle.operator.specs.Op.{names}
 use Rattle.operator.specs.Memory.{view, Ready}
 use Rattle.operator.proofs.ViewLaws.{ready-of-number, Small, small-view}
 use Rattle.judge.specs.Seen.{FLAGS}
-use Rattle.format.proofs.Heads.{HeadRanges, ranges-of-good}
 use Rattle.sheet.specs.Answer.{accepted, paper}
 use Rattle.sheet.specs.Check.{checkOf}
 use Rattle.sheet.specs.Sheet.{opAt}
 use Rattle.sheet.specs.declared.Answer.{Answer}
 use Rattle.sheet.specs.declared.Sheet.{Sheet}
-use Rattle.sheet.proofs.Accepted.{accepted-facts}
+use Rattle.sheet.proofs.Accepted.{accepted-facts, ranges-of-accepted}
 use Rattle.sheet.proofs.Laws.{variable-below}
-use Rattle.counts.proofs.CalmLaws.{all-of-members}
 
 -- what the check answered is what it has to, as a match's arm has it
 pub check-told : (t : Sheet) (a x : Answer) → a ≡ x → paper a ≡ checkOf t → paper x ≡ checkOf t
 check-told t a x e h = ap paper (sym e) ∙ h
 
 module _ (t : Sheet) (h : checkOf t ≡ accepted) where
-  pub head-ranges : HeadRanges (t .inputs) (t .queues) (t .variables) (t .count)
-  head-ranges = ranges-of-good (t .inputs) (t .queues) (t .variables) (t .count) (accepted-facts t h .head)
-
   pub operator-ready : (i : ℕ) → i < t .count → Ready (opAt t i)
   operator-ready i l = ready-of-number (opAt t i) (accepted-facts t h .shaped i l)
 
@@ -37,4 +33,4 @@ module _ (t : Sheet) (h : checkOf t ≡ accepted) where
 
   pub names-have-flags : (i : ℕ) → i < t .count → all (λ (v : ℕ). ltb v FLAGS) (names (view (opAt t i))) ≡ true
   names-have-flags i l =
-      all-of-members (λ (v : ℕ). ltb v FLAGS) (names (view (opAt t i))) (λ v m. lt-ltb v FLAGS (omega (arith, head-ranges, variable-below t h i v l m)))
+      all-of-members (λ (v : ℕ). ltb v FLAGS) (names (view (opAt t i))) (λ v m. lt-ltb v FLAGS (omega (arith, ranges-of-accepted t h, variable-below t h i v l m)))

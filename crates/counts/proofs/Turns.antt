@@ -9,10 +9,10 @@ use native.Mathlib.Omega.{arith}
 use lib.ListN.{set}
 use Rattle.lists.specs.Lists.{build, all, member, sum}
 use Rattle.lists.proofs.Build.{build-snoc}
+use Rattle.lists.proofs.Rest.{rest, rest-turn}
 use Rattle.operator.specs.Op.{Op, names}
 use Rattle.counts.specs.Calm.{calmFrom}
 use Rattle.counts.specs.Worst.{dealWorst, dealt, worstOp, worstFrom}
-use Rattle.counts.proofs.Rest.{rest, rest-turn}
 
 -- the calm test: the operator names nothing that was named, or it does
 module _ (n : ℕ) (g : ℕ → Op) (i : ℕ) (h : i < n) (d : ℕ → Bool) where

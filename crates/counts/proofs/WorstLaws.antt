@@ -4,29 +4,29 @@ use mathlib.Core.Path.{_≡_, refl, ap, _∙_}
 use mathlib.Core.Logic.{⊎-elim}
 use mathlib.Core.Bool.{Bool, true, false, cond}
 use mathlib.Core.List.{List, [], _∷_, map}
-use mathlib.Core.Option.{some, none}
 use Prim.Native.Nat.{ℕ, zero, suc, _+_, _-_, _/_, _<_, _≤_}
 use native.Mathlib.Nat.{div-mul-le-self, le-div-iff-mul-le}
 use native.Mathlib.Omega.{arith}
 use lib.Dec.{ltb, leb, eqb}
-use lib.ListN.{length, getD, set, replicate, length-replicate, getD-replicate, length-set, List·getD-eq-default}
+use lib.ListN.{length, getD, set, length-set, List·getD-eq-default}
 use lib.Seq.{getD-set-other}
 use borrow.Author.Tests.{lt-ltb, le-ltb, leb-true, eqb-true, eqb-false}
 use Rattle.lists.specs.Lists.{any, member, sum}
-use Rattle.lists.proofs.Build.{order, never}
-use Rattle.lists.proofs.Tests.{neither, all-build}
+use Rattle.lists.proofs.Build.{order}
+use Rattle.lists.proofs.Tests.{neither, all-build, any-build}
+use Rattle.lists.proofs.Places.{same-at}
 use Rattle.operator.specs.Op.{Op, line, latest, double, deal, gather, defines}
 use Rattle.operator.specs.Memory.{view}
 use Rattle.format.specs.Head.{QUEUES}
-use Rattle.sheet.specs.Answer.{Paper, accepted, refused, isAccepted}
+use Rattle.sheet.specs.Answer.{accepted, refused, isAccepted}
 use Rattle.sheet.specs.Check.{checkOf}
 use Rattle.sheet.specs.Sheet.{opAt, viewSheet}
 use Rattle.sheet.specs.declared.Sheet.{Sheet}
 use Rattle.sheet.proofs.Laws.{define-below}
-use Rattle.sheet.proofs.Once.{any-build}
+use Rattle.sheet.proofs.AnswerLaws.{accepted-of}
+use Rattle.sheet.proofs.Accepted.{ranges-of-accepted}
 use Rattle.counts.specs.Worst.{ROOM, feedGood, dealWorst, dealt, worstOp, worstFrom}
 use Rattle.counts.specs.Answers.{Counting, noCounts, worstOf}
-use Rattle.counts.proofs.OfAccepted.{head-ranges}
 
 -- the three answers
 module _ (t : Sheet) (fed : List ℕ) where
@@ -101,24 +101,16 @@ none-defines t h q l = cases (any (λ (o : Op). member q (defines o)) (viewSheet
         let r = any-build (λ (o : Op). member q (defines o)) (t .count) (λ (k : ℕ). view (opAt t k)) e in
         absurd (omega (arith, define-below t h (r .0) q (r .1 .0) (r .1 .1)))
 
-no-count : (n q : ℕ) → _≡_ {A = ℕ} (getD (replicate n 0) q 0) 0
-no-count n q =
-    ⊎-elim (getD-replicate n q 0 0) (λ (l : n ≤ q). List·getD-eq-default (replicate n 0) 0 (rw length-replicate l)) (order q n)
-
-accepted-is : (p : Paper) → isAccepted p ≡ true → p ≡ accepted
-accepted-is none h = refl
-accepted-is (some x) h = never h
-
 pub worst-past : (t : Sheet) (fed : List ℕ) → length fed ≡ QUEUES → (q : ℕ) → t .queues ≤ q → getD (worstOf t fed .counts) q 0 ≡ 0
 worst-past t fed full q l = cases (isAccepted (checkOf t)) (feedGood (t .inputs) fed) refl refl
   where
     cases : (a b : Bool) → isAccepted (checkOf t) ≡ a → feedGood (t .inputs) fed ≡ b → getD (worstOf t fed .counts) q 0 ≡ 0
-    cases false b e f = ap (λ (c : Counting). getD (c .counts) q 0) (worst-refused t fed e) ∙ no-count QUEUES q
-    cases true false e f = ap (λ (c : Counting). getD (c .counts) q 0) (worst-overfed t fed (accepted-is (checkOf t) e) f) ∙ no-count QUEUES q
+    cases false b e f = ap (λ (c : Counting). getD (c .counts) q 0) (worst-refused t fed e) ∙ same-at QUEUES 0 q
+    cases true false e f = ap (λ (c : Counting). getD (c .counts) q 0) (worst-overfed t fed (accepted-of (checkOf t) e) f) ∙ same-at QUEUES 0 q
     cases true true e f =
-        let h = accepted-is (checkOf t) e in
+        let h = accepted-of (checkOf t) e in
         ap (λ (c : Counting). getD (c .counts) q 0) (worst-counted t fed h f) ∙ worst-keeps fed (viewSheet t .ops) q (none-defines t h q l)
-        ∙ fed-past (t .inputs) fed f full q (omega (arith, head-ranges t h))
+        ∙ fed-past (t .inputs) fed f full q (omega (arith, ranges-of-accepted t h))
 
 -- there is a count for each queue
 dealt-length : (qs w : List ℕ) (n k j : ℕ) → length (dealt w n k j qs) ≡ length w
@@ -141,9 +133,9 @@ worst-length t fed full = cases (isAccepted (checkOf t)) (feedGood (t .inputs) f
   where
     cases : (a b : Bool) → isAccepted (checkOf t) ≡ a → feedGood (t .inputs) fed ≡ b → length (worstOf t fed .counts) ≡ QUEUES
     cases false b e f = ap (λ (c : Counting). length (c .counts)) (worst-refused t fed e)
-    cases true false e f = ap (λ (c : Counting). length (c .counts)) (worst-overfed t fed (accepted-is (checkOf t) e) f)
+    cases true false e f = ap (λ (c : Counting). length (c .counts)) (worst-overfed t fed (accepted-of (checkOf t) e) f)
     cases true true e f =
-        ap (λ (c : Counting). length (c .counts)) (worst-counted t fed (accepted-is (checkOf t) e) f) ∙ worst-from-length fed (viewSheet t .ops) ∙ full
+        ap (λ (c : Counting). length (c .counts)) (worst-counted t fed (accepted-of (checkOf t) e) f) ∙ worst-from-length fed (viewSheet t .ops) ∙ full
 
 -- output j of a deal over k gets n/k items, and one more where j is below what is left of n
 div-more : (a b k : ℕ) → 0 < k → a ≤ b → a / k ≤ b / k

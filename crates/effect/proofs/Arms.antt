@@ -7,19 +7,15 @@ use Prim.Native.Nat.{ℕ, _<_}
 use lib.Dec.{eqb}
 use lib.ListN.{length, getD, set}
 use lib.IntN.{ℤ, pos}
-use Rattle.lists.proofs.Build.{never', build-length, build-getD}
+use Rattle.lists.proofs.Build.{build-length, build-getD}
 use Rattle.store.specs.declared.Item.{Item}
-use Rattle.operator.specs.declared.Kind.the-variants.{Empty, Latest, Deal, Gather}
+use Rattle.operator.specs.declared.Kind.the-variants.{Latest, Deal, Gather}
 use Rattle.operator.specs.declared.Operator.{Operator}
 use Rattle.operator.specs.Op.{Op}
-use Rattle.operator.specs.Memory.{isEmpty, ways, view, Ready}
+use Rattle.operator.specs.Memory.{ways, view}
+use Rattle.operator.proofs.ViewLaws.{by-kind}
 use Rattle.effect.specs.declared.Flow.{Flow}
 use Rattle.effect.specs.Effect.{Result, cursorAt, movedOn, lineResult, effect, waits, inWays, cursorGood}
-use Rattle.effect.proofs.ByKind.{by-kind}
-
--- a ready operator has a kind
-pub not-empty : {A : Type 0} (o : Operator) → Ready o → o .kind ≡ Empty → A
-not-empty o r e = never' (sym (ap isEmpty e) ∙ r .some)
 
 pub line-kept : (q : ℕ) (y : Flow) → y .kept ≡ true → _≡_ {A = Result} (record { puts = q ∷ []; item = y .item; vars = y .vars }) (lineResult q y)
 line-kept q y h = ap (λ (b : Bool). record { puts = cond b (q ∷ []) []; item = y .item; vars = y .vars }) (sym h)

@@ -1,26 +1,26 @@
 -- What every effect keeps to: it puts at most one item on each of its operator's outputs, writes only variables that the operator names,
 -- keeps the lengths of the variables and of the item, and leaves a cursor in its range. Assumes nothing.
 use mathlib.Core.Path.{_≡_, refl, ap, _∙_}
-use mathlib.Core.Logic.{⊎-elim}
-use mathlib.Core.Bool.{Bool, true, false, cond, _||_}
+use mathlib.Core.Bool.{Bool, true, false, cond}
 use mathlib.Core.List.{List, [], _∷_}
-use Prim.Native.Nat.{ℕ, zero, suc, _+_, _≤_, _<_, _%_}
+use Prim.Native.Nat.{ℕ, _+_, _≤_, _<_, _%_}
 use native.Mathlib.Omega.{arith}
-use lib.Dec.{eqb, ltb}
+use lib.Dec.{ltb}
 use lib.ListN.{length, getD, length-set}
 use lib.Seq.{getD-set-same, getD-set-other}
 use lib.IntN.{ℤ, pos}
-use borrow.Author.Tests.{lt-ltb, ltb-true, eq-eqb, eqb-true}
+use borrow.Author.Tests.{lt-ltb, ltb-true}
 use Rattle.lists.specs.Lists.{all, member, fresh, times}
 use Rattle.lists.proofs.Build.{never}
-use Rattle.lists.proofs.Tests.{both, both-of, or-cases, all-getD}
+use Rattle.lists.proofs.Tests.{both, both-of, all-getD}
 use Rattle.lists.proofs.Times.{fresh-times}
+use Rattle.lists.proofs.Members.{member-at, is-only, not-only}
 use Rattle.store.specs.Store.{FIELDS}
 use Rattle.store.specs.declared.Item.{Item}
 use Rattle.operator.specs.Op.{Op, line, latest, double, deal, gather, defines, names, cursors}
 use Rattle.effect.specs.Flow.{lined}
 use Rattle.effect.specs.Effect.{cursorAt, movedOn, effect, inWays, cursorGood}
-use Rattle.effect.proofs.FlowLaws.{not-only, lined-vars-length, lined-item-length, lined-frame}
+use Rattle.effect.proofs.FlowLaws.{lined-vars-length, lined-item-length, lined-frame}
 use Rattle.effect.proofs.Cursors.{in-ways-below, next-below}
 
 -- the item of a line goes to its output or nowhere
@@ -35,18 +35,6 @@ line-apart false q = refl
 line-defined : (k : ℕ) (b : Bool) (q : ℕ) → member k (cond b (q ∷ []) []) ≡ true → member k (q ∷ []) ≡ true
 line-defined k true q h = h
 line-defined k false q h = never h
-
-member-at : (l : List ℕ) (k : ℕ) → k < length l → member (getD l k 0) l ≡ true
-member-at [] k h = absurd (omega arith)
-member-at (x ∷ l) zero h = rw (eq-eqb x x refl)
-member-at (x ∷ l) (suc k) h = or-right (eqb (getD l k 0) x) (member (getD l k 0) l) (member-at l k (omega arith))
-  where
-    or-right : (a b : Bool) → b ≡ true → (a || b) ≡ true
-    or-right true b h = refl
-    or-right false b h = h
-
-is-only : (k q : ℕ) → member k (q ∷ []) ≡ true → k ≡ q
-is-only k q h = ⊎-elim (λ e. eqb-true k q e) never (or-cases (eqb k q) false h)
 
 -- what holds of every output of an operator holds of every queue that it puts its item on
 pub effect-puts-all : (f : ℕ → Bool) (o : Op) (x : Item) (vs : List ℤ) → cursorGood o vs ≡ true → all f (defines o) ≡ true → all f (effect o x vs .puts) ≡ true

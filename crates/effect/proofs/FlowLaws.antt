@@ -4,23 +4,19 @@ use mathlib.Core.Path.{_≡_, refl, sym, ap, _∙_}
 use mathlib.Core.Bool.{Bool, true, false, cond}
 use mathlib.Core.List.{List, [], _∷_}
 use Prim.Native.Nat.{ℕ}
-use lib.Dec.{eqb}
 use lib.ListN.{length, getD, length-set}
 use lib.Seq.{getD-set-other}
 use lib.IntN.{ℤ, pos}
-use borrow.Author.Tests.{eqb-false}
 use Rattle.number.specs.Number.{between}
 use Rattle.lists.specs.Lists.{member, chain}
 use Rattle.lists.proofs.Tests.{neither, member-append}
+use Rattle.lists.proofs.Members.{not-only}
 use Rattle.step.specs.Step.{rowOf, stepNames}
 use Rattle.step.specs.declared.Func.{Func}
 use Rattle.step.specs.declared.Func.the-variants.{None, Keep, Add, Copy, Count, Stamp}
 use Rattle.step.specs.declared.Step.{Step}
 use Rattle.effect.specs.declared.Flow.{Flow}
 use Rattle.effect.specs.Flow.{fieldOf, withField, withVar, dropped, does, stepped, lined}
-
-pub not-only : (k q : ℕ) → member k (q ∷ []) ≡ false → k ≡ q → ⊥
-not-only k q h = eqb-false k q (neither (eqb k q) false h .0)
 
 -- what a step can do: nothing, drop the item, store one field, or count
 module _ (P : Flow → Type 0) (s : Step) (x : Flow) (same : P x) (drop : P (dropped x)) (field : (p : ℕ) (z : ℤ) → P (withField x p z))

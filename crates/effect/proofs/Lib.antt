@@ -1,5 +1,4 @@
 pub mod Back
-pub mod ByKind
 pub mod Lines
 pub mod Cursors
 pub mod Arms

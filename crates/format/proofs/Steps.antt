@@ -15,11 +15,6 @@ use Rattle.step.specs.declared.Step.{Step}
 use Rattle.step.proofs.Back.{length-step-bytes, step-of-bytes, bytes-of-step}
 use Rattle.format.proofs.Sizes.{FitsSteps, knownSteps}
 
-module _ {A B : Type 0} where
-  pub chain-append : (f : A → List B) (l m : List A) → chain f (l ++ m) ≡ chain f l ++ chain f m
-  chain-append f [] m = refl
-  chain-append f (x ∷ l) m = rw (chain-append f l m) (sym (append-assoc (f x) (chain f l) (chain f m)))
-
 -- the steps that a list of bytes holds, one each twelve bytes
 abbrev pub stepsOf : ℕ → List ℕ → List Step
 stepsOf n b = build n (λ (k : ℕ). stepOf (drop (STEP_BYTES * k) b))

@@ -2,13 +2,13 @@
 -- Assumes nothing.
 use mathlib.Core.Path.{_≡_, refl, _∙_}
 use mathlib.Core.Bool.{Bool, true, false, cond, _&&_}
-use mathlib.Core.List.{List, [], _∷_}
+use mathlib.Core.List.{[], _∷_}
 use Prim.Native.Nat.{ℕ, _≤_}
 use native.Mathlib.Omega.{arith}
 use lib.Dec.{eqb, ltb}
-use borrow.Author.Tests.{ltb-true, lt-ltb}
 use Rattle.lists.specs.Lists.{all}
 use Rattle.lists.proofs.Tests.{both, both-of, all-implies, all-chain}
+use Rattle.lists.proofs.Members.{all-below}
 use Rattle.step.specs.Step.{NO_VARIABLE, rowOf, knownFunc, stepNames, stepVariable}
 use Rattle.step.specs.declared.Func.{Func}
 use Rattle.step.specs.declared.Func.the-variants.{None, Keep, Add, Copy, Count, Stamp}
@@ -43,10 +43,6 @@ module _ (Q vs : ℕ) (k : Known) (o : Op) (e : judgeBy Q vs k o ≡ 0) where
 
   pub judged-seven : seven o ≡ true
   judged-seven = passed .3
-
--- numbers below n are below m
-pub all-below : (n m : ℕ) (l : List ℕ) → n ≤ m → all (λ (v : ℕ). ltb v n) l ≡ true → all (λ (v : ℕ). ltb v m) l ≡ true
-all-below n m l h = all-implies (λ (v : ℕ). ltb v n) (λ (v : ℕ). ltb v m) l (λ v p. lt-ltb v m (omega (arith, ltb-true v n p)))
 
 -- a step that takes a variable has a known function, so its variable was looked at
 named-by : (f : Func) (v vs : ℕ) → cond (knownFunc f) (cond (rowOf f .variable) (ltb v vs) (eqb v NO_VARIABLE)) true ≡ true →

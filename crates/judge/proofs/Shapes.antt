@@ -10,11 +10,7 @@ use Rattle.operator.specs.declared.Operator.{Operator}
 use Rattle.operator.specs.declared.Shape.{Shape}
 use Rattle.operator.specs.Op.{Op, reads, defines}
 use Rattle.operator.specs.Memory.{PLACES, shapeOf, ways, viewAs, view, Ready}
-use Rattle.operator.proofs.ViewLaws.{reads-view, defines-view, shape-small}
-
--- what a kind's operator gives, the operator gives
-pub by-kind : {A : Type 0} (f : Op → A) (o : Operator) (k : Kind) → o .kind ≡ k → f (viewAs k o) ≡ f (view o)
-by-kind f o k e = ap (λ (j : Kind). f (viewAs j o)) (sym e)
+use Rattle.operator.proofs.ViewLaws.{reads-view, defines-view, shape-small, by-kind}
 
 -- and what a set has with the numbers of a kind's operator
 pub set-by : (f : Op → List ℕ) (o : Operator) (k : Kind) (s r : List Bool) → o .kind ≡ k →

@@ -1,6 +1,6 @@
--- Laws of `build`: its length, its elements, one store more, and how it meets `++`, `map` and `take`.
+-- Laws of `build`: its length, its elements, a store, one store more, and how it meets `++`, `map` and `take`.
 -- Assumes nothing.
-use mathlib.Core.Path.{_≡_, refl, ap, _∙_, sym}
+use mathlib.Core.Path.{_≡_, refl, ap, ap₂, _∙_, sym}
 use mathlib.Core.Logic.{_⊎_, inl, inr, ⊎-elim}
 use mathlib.Core.Bool.{Bool, true, false, cond, true≢false, false≢true}
 use mathlib.Core.List.{List, [], _∷_, _++_, map}
@@ -8,7 +8,7 @@ use Prim.Native.Nat.{ℕ, zero, suc, _+_, _<_, _≤_}
 use native.Mathlib.Nat.{zero-add, suc-add}
 use native.Mathlib.Numerals.{add-one}
 use native.Mathlib.Omega.{arith}
-use lib.Dec.{ltb, eqb}
+use lib.Dec.{ltb, eqb, eqb·zero-suc, eqb·suc-zero, eqb·suc-suc}
 use lib.ListN.{length, getD, set, take, length-set}
 use lib.Seq.{ext-getD, take-all, getD-set-same, getD-set-other}
 use borrow.Author.Tests.{lt-ltb, le-ltb, ltb-true, ltb-false, eqb-true, eqb-false}
@@ -64,6 +64,11 @@ module _ {A : Type 0} where
   build-append-getD [] m d = refl
   build-append-getD (x ∷ l) m d = ap (λ (r : List A). x ∷ r) (build-append-getD l m d)
 
+  pub take-of-build : (n k : ℕ) (g : ℕ → A) (d : A) → k ≤ n → take k (build n g) ≡ build k g
+  take-of-build n k g d l =
+      sym (take-build k (build n g) d (rw (build-length n g) l))
+      ∙ build-ext k (λ (j : ℕ). getD (build n g) j d) g (λ j h. build-getD n g d j (omega arith))
+
   -- every list is one
   pub build-all : (l : List A) (d : A) (n : ℕ) → length l ≡ n → build n (λ (k : ℕ). getD l k d) ≡ l
   build-all l d n e = take-build n l d (omega arith) ∙ take-all n l (omega arith)
@@ -103,3 +108,13 @@ module _ {A : Type 0} where
 pub build-map : {A B : Type 0} (n : ℕ) (h : A → B) (g : ℕ → A) → map h (build n g) ≡ build n (λ (k : ℕ). h (g k))
 build-map zero h g = refl
 build-map {B = B} (suc n) h g = ap (λ (r : List B). h (g 0) ∷ r) (build-map n h (λ (k : ℕ). g (suc k)))
+
+-- a store into a list by its elements
+pub set-build : {A : Type 0} (n : ℕ) (f : ℕ → A) (q : ℕ) (x : A) → set (build n f) q x ≡ build n (λ (k : ℕ). cond (eqb k q) x (f k))
+set-build zero f q x = refl
+set-build {A} (suc n) f zero x =
+    ap (λ (l : List A). x ∷ l)
+    (build-ext n (λ (k : ℕ). f (suc k)) (λ (k : ℕ). cond (eqb (suc k) 0) x (f (suc k))) (λ k l. rw eqb·suc-zero))
+set-build {A} (suc n) f (suc q) x =
+    ap₂ (λ (b : Bool) (l : List A). cond b x (f 0) ∷ l) (sym (eqb·zero-suc q)) (set-build n (λ (k : ℕ). f (suc k)) q x
+    ∙ build-ext n (λ (k : ℕ). cond (eqb k q) x (f (suc k))) (λ (k : ℕ). cond (eqb (suc k) (suc q)) x (f (suc k))) (λ k l. rw eqb·suc-suc))

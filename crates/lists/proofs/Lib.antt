@@ -1,7 +1,15 @@
 pub mod Build
+pub mod Places
+pub mod Bits
 pub mod Tests
+pub mod Members
+pub mod Chains
+pub mod Tables
 pub mod Pad
 pub mod Fresh
 pub mod Flags
 pub mod Times
 pub mod Sets
+pub mod Rest
+pub mod Insert
+pub mod Cut

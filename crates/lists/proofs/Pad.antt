@@ -2,13 +2,15 @@
 -- Assumes nothing.
 use mathlib.Core.Path.{_≡_, refl, ap, _∙_, sym}
 use mathlib.Core.Logic.{⊎-elim}
-use mathlib.Core.List.{List, [], _∷_, _++_}
-use Prim.Native.Nat.{ℕ, zero, suc, _<_, _≤_}
+use mathlib.Core.List.{List, [], _∷_, _++_, append-nil}
+use Prim.Native.Nat.{ℕ, zero, suc, _+_, _<_, _≤_}
+use native.Mathlib.Nat.{zero-add, suc-add}
 use native.Mathlib.Omega.{arith}
 use lib.ListN.{length, getD, set, take, replicate, List·getD-eq-default}
 use lib.Seq.{ext-getD}
 use Rattle.lists.specs.Lists.{build, pad}
-use Rattle.lists.proofs.Build.{order, build-length, build-getD, take-build}
+use Rattle.lists.proofs.Places.{same-at}
+use Rattle.lists.proofs.Build.{order, build-length, build-getD, build-snoc, take-build}
 
 module _ {A : Type 0} where
   pub pad-length : (n : ℕ) (d : A) (l : List A) → length (pad n d l) ≡ n
@@ -32,10 +34,24 @@ module _ {A : Type 0} where
   pad-replicate zero d = refl
   pad-replicate (suc n) d = ap (λ (r : List A). d ∷ r) (pad-replicate n d)
 
+  pub pad-none : (n : ℕ) (d : A) (k : ℕ) → getD (pad n d []) k d ≡ d
+  pad-none n d k = ap (λ (l : List A). getD l k d) (pad-replicate n d) ∙ same-at n d k
+
+  -- the list, and then the filler
+  pub pad-add : (k : ℕ) (d : A) (l : List A) → pad (length l + k) d l ≡ l ++ replicate k d
+  pad-add k d [] = rw zero-add (pad-replicate k d)
+  pad-add k d (x ∷ l) = rw suc-add (ap (λ (r : List A). x ∷ r) (pad-add k d l))
+
+  pub pad-past : (n : ℕ) (d : A) (l : List A) (k : ℕ) → length l ≤ k → k < n → getD (pad n d l) k d ≡ d
+  pad-past n d l k h b = pad-getD n d l k b ∙ List·getD-eq-default l d h
+
+  pub pad-front : (n : ℕ) (d : A) (l r : List A) → length l ≤ n → take (length l) (pad n d (l ++ r)) ≡ l
+  pad-front n d [] r h = refl
+  pad-front zero d (x ∷ l) r h = absurd (omega arith)
+  pad-front (suc n) d (x ∷ l) r h = ap (λ (s : List A). x ∷ s) (pad-front n d l r (omega arith))
+
   pub pad-take : (n : ℕ) (d : A) (l : List A) → length l ≤ n → take (length l) (pad n d l) ≡ l
-  pad-take n d [] h = refl
-  pad-take zero d (x ∷ l) h = absurd (omega arith)
-  pad-take (suc n) d (x ∷ l) h = ap (λ (r : List A). x ∷ r) (pad-take n d l (omega arith))
+  pad-take n d l h = ap (λ (m : List A). take (length l) (pad n d m)) (sym (append-nil l)) ∙ pad-front n d l [] h
 
   pub pad-full : (n : ℕ) (d : A) (l : List A) → length l ≡ n → pad n d l ≡ l
   pad-full zero d [] e = refl
@@ -52,6 +68,18 @@ module _ {A : Type 0} where
   pad-set zero d l x h = absurd (omega arith)
   pad-set (suc n) d [] x h = refl
   pad-set (suc n) d (y ∷ l) x h = ap (λ (r : List A). y ∷ r) (pad-set n d l x (omega arith))
+
+  -- one turn of a loop that fills the places from the front
+  pub pad-build-more : (n i : ℕ) (d : A) (f : ℕ → A) → i < n → set (pad n d (build i f)) i (f i) ≡ pad n d (build (i + 1) f)
+  pad-build-more n i d f h =
+      rw (build-snoc i f) (rw (build-length i f) at (pad-set n d (build i f) (f i) (rw (build-length i f) h)))
+
+  -- a store among the places is a store in the list
+  pub set-pad : (n : ℕ) (d : A) (l : List A) (i : ℕ) (x : A) → i < length l → length l ≤ n → set (pad n d l) i x ≡ pad n d (set l i x)
+  set-pad n d [] i x h b = absurd (omega arith)
+  set-pad zero d (y ∷ l) i x h b = absurd (omega arith)
+  set-pad (suc n) d (y ∷ l) zero x h b = refl
+  set-pad (suc n) d (y ∷ l) (suc i) x h b = ap (λ (r : List A). y ∷ r) (set-pad n d l i x (omega arith) (omega arith))
 
   -- and the list gives the places back, where all others hold d
   pub pad-back : (n m : ℕ) (d : A) (l : List A) → length l ≡ n → ((k : ℕ) → m ≤ k → k < n → getD l k d ≡ d) → pad n d (build m (λ (k : ℕ). getD l k d)) ≡ l

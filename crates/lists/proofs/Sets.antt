@@ -7,6 +7,8 @@ use native.Mathlib.Nat.{add-zero, zero-add}
 use native.Mathlib.Omega.{arith}
 use lib.ListN.{length, set, drop}
 use lib.Seq.{sets, sets-eq}
+use Rattle.lists.specs.Lists.{build}
+use Rattle.lists.proofs.Build.{build-length, build-snoc}
 
 module _ {A : Type 0} where
   pub sets-nil : (l : List A) (i : ℕ) → sets l i [] ≡ l
@@ -18,3 +20,11 @@ module _ {A : Type 0} where
 
   pub sets-front : (v l : List A) → length v ≤ length l → sets l 0 v ≡ v ++ drop (length v) l
   sets-front v l h = sets-eq v l 0 (rw zero-add h) ∙ rw zero-add
+
+  -- one run after another, where the second starts at the end of the first
+  pub sets-after : (s₀ s t : List A) (at n : ℕ) (a b : List A) → length a ≡ n → s ≡ sets s₀ at a → t ≡ sets s (at + n) b → t ≡ sets s₀ at (a ++ b)
+  sets-after s₀ s t at n a b e p q = rw (q, p, ← e) (sets-append a b s₀ at)
+
+  -- one element more
+  pub sets-more : (s₀ s t : List A) (at i : ℕ) (g : ℕ → A) → s ≡ sets s₀ at (build i g) → t ≡ set s (at + i) (g i) → t ≡ sets s₀ at (build (i + 1) g)
+  sets-more s₀ s t at i g p q = rw build-snoc (sets-after s₀ s t at i (build i g) (g i ∷ []) (build-length i g) p q)

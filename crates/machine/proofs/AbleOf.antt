@@ -6,23 +6,22 @@ use Prim.Native.Nat.{ℕ, _<_}
 use native.Mathlib.Omega.{arith}
 use lib.Dec.{ltb}
 use lib.IntN.{ℤ}
-use lib.ListN.{length, getD}
 use mathlib.Core.List.{List}
 use borrow.Author.Tests.{ltb-true}
 use Rattle.lists.specs.Lists.{member}
-use Rattle.lists.proofs.Build.{build-length, build-getD}
 use Rattle.lists.proofs.Tests.{all-build, all-member}
+use Rattle.lists.proofs.Members.{all-below}
 use Rattle.operator.specs.Op.{Op, line, latest, double, deal, gather, reads, defines, names}
 use Rattle.operator.specs.Memory.{view}
 use Rattle.judge.specs.Judge.{known, seven}
-use Rattle.judge.proofs.JudgedLaws.{judged-seven, all-below}
+use Rattle.judge.proofs.JudgedLaws.{judged-seven}
 use Rattle.format.specs.Head.{QUEUES, VARIABLES}
-use Rattle.format.proofs.Heads.{HeadRanges, ranges-of-good}
 use Rattle.sheet.specs.declared.Sheet.{Sheet}
 use Rattle.sheet.specs.Answer.{accepted}
 use Rattle.sheet.specs.Sheet.{opAt, viewTo, viewSheet}
 use Rattle.sheet.specs.Check.{checkOf}
 use Rattle.sheet.proofs.Accepted.{Accepted, accepted-facts}
+use Rattle.sheet.proofs.Placed.{ops-many, ops-at}
 use Rattle.effect.specs.Able.{Able}
 use Rattle.effect.specs.Effect.{cursorGood}
 use Rattle.effect.proofs.AbleLaws.{sound, able-of}
@@ -39,16 +38,6 @@ seven-sound (latest p v f) = refl
 seven-sound (double p q r) = refl
 seven-sound (deal c p qs) = refl
 seven-sound (gather c q ps) = refl
-
-pub ranges-of-accepted : (t : Sheet) → checkOf t ≡ accepted → HeadRanges (t .inputs) (t .queues) (t .variables) (t .count)
-ranges-of-accepted t h = ranges-of-good (t .inputs) (t .queues) (t .variables) (t .count) (accepted-facts t h .head)
-
--- the sheet's operators by their places
-pub ops-many : (t : Sheet) → length (viewSheet t .ops) ≡ t .count
-ops-many t = build-length (t .count) (λ (k : ℕ). view (opAt t k))
-
-pub ops-at : (t : Sheet) (i : ℕ) → i < t .count → getD (viewSheet t .ops) i (double 0 0 0) ≡ view (opAt t i)
-ops-at t i l = build-getD (t .count) (λ (k : ℕ). view (opAt t k)) (double 0 0 0) i l
 
 pub sound-at : (t : Sheet) → checkOf t ≡ accepted → (i : ℕ) → i < t .count → SoundOp (t .queues) (t .variables) (view (opAt t i))
 sound-at t h i l =

@@ -8,6 +8,8 @@ use native.Mathlib.Omega.{arith}
 use lib.ListN.{length, getD, replicate}
 use lib.IntN.{ℤ, pos}
 use borrow.Author.Tests.{lt-ltb}
+use Rattle.lists.proofs.Tests.{all-of-each}
+use Rattle.lists.proofs.Places.{same-at}
 use Rattle.operator.specs.Op.{Op, line, latest, double, deal, gather, Abstract}
 use Rattle.operator.proofs.ViewLaws.{Small}
 use Rattle.format.specs.Head.{VARIABLES}
@@ -18,7 +20,6 @@ use Rattle.effect.specs.Effect.{inWays, cursorGood}
 use Rattle.machine.specs.Machine.{Machine}
 use Rattle.machine.specs.Numbers.{stateOf, storeIn, GoodM}
 use Rattle.machine.specs.Calls.{freshState}
-use Rattle.machine.proofs.Good.{all-of-each}
 use Rattle.machine.proofs.Sound.{opIn, Sound}
 
 abbrev pub freshMachine : Machine
@@ -26,12 +27,6 @@ freshMachine = record { queues = replicate QUEUES []; vars = replicate VARIABLES
 
 pub fresh-numbers : (stateOf freshMachine ≡ freshState) × (storeIn freshMachine ≡ replicate STORE (pos 0))
 fresh-numbers = (refl, zeros-store QUEUES)
-
--- every place of a list of one element, also past its end
-same-at : {A : Type 0} (n : ℕ) (d : A) (k : ℕ) → getD (replicate n d) k d ≡ d
-same-at zero d k = refl
-same-at (suc n) d zero = refl
-same-at (suc n) d (suc k) = same-at n d k
 
 wide-none : (n : ℕ) → AllWide (replicate n [])
 wide-none zero = tt

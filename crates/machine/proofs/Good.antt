@@ -1,20 +1,19 @@
 -- A machine and its numbers: a good machine is read back from its numbers, numbers that pass 8 are those of a good machine, and what 8 lets pass.
 -- Assumes nothing.
 use mathlib.Core.Path.{_≡_, refl, sym, ap, _∙_, subst}
-use mathlib.Core.Bool.{Bool, true}
+use mathlib.Core.Bool.{true}
 use mathlib.Core.List.{List, [], _∷_, map}
-use Prim.Native.Nat.{ℕ, zero, suc, _+_, _-_, _≤_, _<_}
+use Prim.Native.Nat.{ℕ, zero, suc, _-_, _≤_, _<_}
 use native.Mathlib.Nat.{zero-add}
 use native.Mathlib.Omega.{arith}
 use lib.Dec.{eqb}
-use lib.ListN.{length, getD, drop, length-map, length-drop, List·getD-eq-default}
-use lib.Seq.{getD-drop}
+use lib.ListN.{length, getD, drop, length-map, List·getD-eq-default}
 use lib.IntN.{ℤ, pos}
 use mathlib.Core.Logic.{⊎-elim}
 use borrow.Author.Tests.{eqb-true, eq-eqb}
 use Rattle.lists.specs.Lists.{all}
 use Rattle.lists.proofs.Build.{order}
-use Rattle.lists.proofs.Tests.{both, both-of, all-getD}
+use Rattle.lists.proofs.Tests.{both, both-of, all-from, all-from-of}
 use Rattle.operator.specs.Op.{Op, Abstract}
 use Rattle.format.specs.Head.{VARIABLES}
 use Rattle.store.specs.declared.Item.{Item}
@@ -28,25 +27,6 @@ use Rattle.effect.specs.Effect.{cursorGood}
 use Rattle.machine.specs.declared.State.{State}
 use Rattle.machine.specs.Machine.{Machine}
 use Rattle.machine.specs.Numbers.{decode, stateOf, storeIn, good, GoodM}
-
--- ---- a test of every element from n on, where the element past the end passes
-
-module _ {A : Type 0} (f : A → Bool) (d : A) where
-  all-from : (l : List A) (n : ℕ) → f d ≡ true → all f (drop n l) ≡ true → (k : ℕ) → n ≤ k → f (getD l k d) ≡ true
-  all-from l n e h k b =
-      let i : n + (k - n) ≡ k = omega arith in
-      ⊎-elim
-      (λ (c : k - n < length (drop n l)).
-      ap f (ap (λ (j : ℕ). getD l j d) (sym i) ∙ sym (getD-drop n l (k - n) d)) ∙ all-getD f (drop n l) d h (k - n) c)
-      (λ (c : length (drop n l) ≤ k - n). ap f (List·getD-eq-default l d (omega (arith, length-drop n l))) ∙ e)
-      (order (k - n) (length (drop n l)))
-
-  pub all-of-each : (l : List A) → ((k : ℕ) → k < length l → f (getD l k d) ≡ true) → all f l ≡ true
-  all-of-each [] h = refl
-  all-of-each (x ∷ l) h = both-of (f x) (all f l) (h 0 (omega arith)) (all-of-each l (λ k b. h (suc k) (omega arith)))
-
-  all-from-of : (l : List A) (n : ℕ) → ((k : ℕ) → n ≤ k → f (getD l k d) ≡ true) → all f (drop n l) ≡ true
-  all-from-of l n h = all-of-each (drop n l) (λ k b. ap f (getD-drop n l k d) ∙ h (n + k) (omega arith))
 
 -- ---- counts
 

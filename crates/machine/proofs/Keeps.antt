@@ -2,7 +2,7 @@
 -- Assumes nothing.
 use mathlib.Core.Path.{_≡_, refl, sym, ap, _∙_, subst}
 use mathlib.Core.Logic.{⊎-elim}
-use mathlib.Core.Bool.{Bool, true, false, _||_}
+use mathlib.Core.Bool.{true, false}
 use mathlib.Core.List.{List, [], _∷_, _++_}
 use Prim.Native.Nat.{ℕ, suc, _≤_, _<_}
 use native.Mathlib.Nat.{le-refl}
@@ -10,13 +10,13 @@ use native.Mathlib.Omega.{arith}
 use lib.Dec.{eqb, ltb, leb}
 use lib.ListN.{length, getD, set, length-set, length-append}
 use lib.Seq.{getD-set-other, getD-set-same, set-out}
-use borrow.Author.Tests.{leb-false, lt-leb, le-ltb, eq-eqb, eqb-false}
-use Rattle.lists.specs.Lists.{all, member, fresh, times}
-use Rattle.lists.proofs.Build.{never, order, same-or}
-use Rattle.lists.proofs.Tests.{neither, neither-of, all-getD, all-member}
-use Rattle.lists.proofs.Times.{fresh-apart, times-member}
+use borrow.Author.Tests.{leb-false, lt-leb, eqb-false}
+use Rattle.lists.specs.Lists.{all, member, fresh}
+use Rattle.lists.proofs.Build.{order, same-or}
+use Rattle.lists.proofs.Tests.{neither, neither-of, all-getD, all-of-each}
+use Rattle.lists.proofs.Times.{fresh-first}
+use Rattle.lists.proofs.Members.{not-below, all-below}
 use Rattle.operator.specs.Op.{Op, double, Abstract, names, cursors}
-use Rattle.judge.proofs.JudgedLaws.{all-below}
 use Rattle.store.specs.declared.Item.{Item}
 use Rattle.store.specs.Store.{FIELDS, ROOM}
 use Rattle.store.specs.Queues.{Fit, Wide, AllWide}
@@ -26,32 +26,8 @@ use Rattle.effect.proofs.EffectLaws.{effect-puts-below, effect-puts-apart, effe
 use Rattle.effect.proofs.EffectLaws.{effect-cursor-good, effect-other-cursor, cursors-named}
 use Rattle.machine.specs.Machine.{Machine, Outcome, refuse, done, full, putAll, fireM, feedM, took, takeM, Ran, ranOn, runFrom}
 use Rattle.machine.specs.Numbers.{GoodM}
-use Rattle.machine.proofs.Good.{all-of-each}
 use Rattle.machine.proofs.Firing.{fire-takes-one, feed-puts-one, take-removes-one}
-use Rattle.machine.proofs.Sound.{opIn, SoundOp, Sound, fresh-fewer}
-
--- ---- members of lists of numbers
-
--- a number that fails where the whole list passes is not in it
-not-in : (f : ℕ → Bool) (l : List ℕ) (k : ℕ) → all f l ≡ true → f k ≡ false → member k l ≡ false
-not-in f l k h e = go (member k l) refl
-  where
-    go : (b : Bool) → member k l ≡ b → b ≡ false
-    go true m = never (sym e ∙ all-member f l h k m)
-    go false m = refl
-
-not-below : (n : ℕ) (l : List ℕ) (k : ℕ) → all (λ (q : ℕ). ltb q n) l ≡ true → n ≤ k → member k l ≡ false
-not-below n l k h b = not-in (λ (q : ℕ). ltb q n) l k h (le-ltb k n b)
-
--- the first of a list that holds nothing twice stands in the rest nowhere, and the rest holds nothing twice
-fresh-first : (q : ℕ) (l : List ℕ) → fresh (λ (r : ℕ). false) (q ∷ l) ≡ true → (member q l ≡ false) × (fresh (λ (r : ℕ). false) l ≡ true)
-fresh-first q l h =
-    let t : times q l ≡ 0 = fresh-apart (λ (x : ℕ). eqb x q || false) l q h (rw (eq-eqb q q refl)) in
-    (go t (member q l) refl, fresh-fewer (λ (x : ℕ). eqb x q || false) (λ (r : ℕ). false) l (λ k e. never e) h)
-  where
-    go : times q l ≡ 0 → (b : Bool) → member q l ≡ b → b ≡ false
-    go t true m = absurd (omega (arith, times-member q l m))
-    go t false m = refl
+use Rattle.machine.proofs.Sound.{opIn, SoundOp, Sound}
 
 -- ---- puts, queue by queue
 

@@ -10,7 +10,7 @@ use lib.IntN.{ℤ}
 use borrow.Author.Tests.{ltb-true, leb-false, lt-leb, eq-eqb, not-true}
 use Rattle.lists.specs.Lists.{all, any, fresh}
 use Rattle.lists.proofs.Build.{never}
-use Rattle.lists.proofs.Tests.{both, neither, neither-of}
+use Rattle.lists.proofs.Tests.{both, neither, neither-of, or-right}
 use Rattle.store.specs.Store.{ROOM, QUEUES}
 use Rattle.store.specs.declared.Item.{Item}
 use Rattle.effect.specs.declared.Puts.{Puts}
@@ -78,10 +78,6 @@ module _ (p : Puts) (a b : ℕ) (e : p ≡ Two a b) where
   puts-two w v u x f g = g ∙ ap (λ (r : Raw). putRaw r b x) f ∙ sym (ap (λ (k : Puts). putsRaw w (putsOf k) x) e)
 
 -- ---- room for each of the queues, one after the other, where none is full and all differ
-
-or-right : (a b : Bool) → b ≡ true → (a || b) ≡ true
-or-right true b h = refl
-or-right false b h = h
 
 full-after-take : (cs : List ℕ) (q : ℕ) (to : List ℕ) → fullOf cs to ≡ false → fullOf (set cs q (getD cs q 0 - 1)) to ≡ false
 full-after-take cs q [] h = refl

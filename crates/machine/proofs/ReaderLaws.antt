@@ -4,17 +4,18 @@ use mathlib.Core.Path.{_≡_, refl, sym, ap, ap₂, _∙_}
 use mathlib.Core.Logic.{⊎-elim}
 use mathlib.Core.Bool.{Bool, true, false, cond, not, _&&_, _||_}
 use mathlib.Core.List.{List, [], _∷_, _++_}
-use Prim.Native.Nat.{ℕ, zero, suc, _+_, _-_, _<_, _≤_}
+use Prim.Native.Nat.{ℕ, suc, _+_, _-_, _<_, _≤_}
 use native.Mathlib.Nat.{sub-zero, sub-self}
 use native.Mathlib.Numerals.{add-one}
 use native.Mathlib.Omega.{arith}
-use lib.Dec.{eqb, ltb, eqb·zero-suc, eqb·suc-zero, eqb·suc-suc}
+use lib.Dec.{eqb, ltb}
 use lib.ListN.{length, getD, set, drop, replicate, length-set, drop-of-length-le, List·getD-eq-default}
 use lib.Seq.{drop-cons}
 use borrow.Author.Tests.{lt-ltb}
 use Rattle.lists.specs.Lists.{build, any, member}
-use Rattle.lists.proofs.Build.{order, never, build-length, build-getD, build-ext, build-snoc}
-use Rattle.lists.proofs.Tests.{neither}
+use Rattle.lists.proofs.Build.{order, never, build-length, build-getD, build-ext, build-snoc, set-build}
+use Rattle.lists.proofs.Tests.{neither, none-of-each, false-of, cond-le, cond-ge}
+use Rattle.lists.proofs.Places.{getD-next}
 use Rattle.operator.specs.Op.{Op, Abstract, reads}
 use Rattle.format.specs.Head.{OPERATORS}
 use Rattle.store.specs.Store.{QUEUES}
@@ -25,19 +26,11 @@ use Rattle.machine.specs.Working.{readerFrom, readersOf, readersWith, fi
 abbrev pub isRead : List Op → ℕ → Bool
 isRead os q = any (λ (o : Op). member q (reads o)) os
 
-none-of : {A : Type 0} (f : A → Bool) (l : List A) (d : A) → ((k : ℕ) → k < length l → f (getD l k d) ≡ false) → any f l ≡ false
-none-of f [] d h = refl
-none-of f (x ∷ l) d h = rw (h 0 (omega arith), none-of f l d (λ k b. h (suc k) (omega arith)))
-
 -- where each operator reads only queues below n, none reads a queue from n on
-false-of : (b : Bool) → (b ≡ true → ⊥) → b ≡ false
-false-of true h = absurd (h refl)
-false-of false h = refl
-
 pub unread-past : (os : List Op) (d : Op) (n q : ℕ) → ((i p : ℕ) → i < length os → member p (reads (getD os i d)) ≡ true → p < n) →
     n ≤ q → isRead os q ≡ false
 unread-past os d n q h l =
-    none-of (λ (o : Op). member q (reads o)) os d (λ i b. false-of (member q (reads (getD os i d))) (λ e. omega (arith, h i q b e)))
+    none-of-each (λ (o : Op). member q (reads o)) d os (λ i b. false-of (member q (reads (getD os i d))) (λ e. omega (arith, h i q b e)))
 
 -- firing what no operator reads
 pub fire-unread : (os : List Op) (m : Machine) (q : ℕ) → isRead os q ≡ false → fireFirst os m q ≡ refuse 9
@@ -51,14 +44,6 @@ reader-of-none [] i q h = refl
 reader-of-none (o ∷ os) i q h = let p = neither (member q (reads o)) (isRead os q) h in rw (p .0) (reader-of-none os (suc i) q (p .1))
 
 -- a reader's place is from i on, and OPERATORS at most
-cond-le : (b : Bool) (x y n : ℕ) → x ≤ n → y ≤ n → cond b x y ≤ n
-cond-le true x y n h k = h
-cond-le false x y n h k = k
-
-cond-ge : (b : Bool) (x y n : ℕ) → n ≤ x → n ≤ y → n ≤ cond b x y
-cond-ge true x y n h k = h
-cond-ge false x y n h k = k
-
 pub reader-below : (os : List Op) (i q : ℕ) → i + length os ≤ OPERATORS → readerFrom os i q ≤ OPERATORS
 reader-below [] i q h = omega arith
 reader-below (o ∷ os) i q h = cond-le (member q (reads o)) i (readerFrom os (suc i) q) OPERATORS (omega arith) (reader-below os (suc i) q (omega arith))
@@ -67,10 +52,6 @@ pub reader-from : (os : List Op) (i q : ℕ) → i + length os ≤ OPERATORS →
 reader-from [] i q h = omega arith
 reader-from (o ∷ os) i q h =
     cond-ge (member q (reads o)) i (readerFrom os (suc i) q) i (omega arith) (omega (arith, reader-from os (suc i) q (omega arith)))
-
--- an operator further on
-getD-next : {A : Type 0} (x : A) (l : List A) (r i : ℕ) (d : A) → suc i ≤ r → getD (x ∷ l) (r - i) d ≡ getD l (r - suc i) d
-getD-next x l r i d h = let e : r - i ≡ suc (r - suc i) = omega arith in ap (λ (k : ℕ). getD (x ∷ l) k d) e
 
 -- a queue has a reader exactly if an operator reads it
 found-step : (b : Bool) (i r : ℕ) (s : Bool) → i < OPERATORS → ltb r OPERATORS ≡ s → ltb (cond b i r) OPERATORS ≡ (b || s)
@@ -143,16 +124,6 @@ fire-by-table a m q d h o =
 pub output-by-reader : (a : Abstract) (q : ℕ) → length (a .ops) ≤ OPERATORS →
     isOutput a q ≡ (ltb q (a .queues) && not (ltb (readerFrom (a .ops) 0 q) OPERATORS))
 output-by-reader a q h = ap (λ (b : Bool). ltb q (a .queues) && not b) (sym (reader-found (a .ops) 0 q (omega arith)))
-
--- a store into a list by its elements
-pub set-build : {A : Type 0} (n : ℕ) (f : ℕ → A) (q : ℕ) (x : A) → set (build n f) q x ≡ build n (λ (k : ℕ). cond (eqb k q) x (f k))
-set-build zero f q x = refl
-set-build {A} (suc n) f zero x =
-    ap (λ (l : List A). x ∷ l)
-    (build-ext n (λ (k : ℕ). f (suc k)) (λ (k : ℕ). cond (eqb (suc k) 0) x (f (suc k))) (λ k l. rw eqb·suc-zero))
-set-build {A} (suc n) f (suc q) x =
-    ap₂ (λ (b : Bool) (l : List A). cond b x (f 0) ∷ l) (sym (eqb·zero-suc q)) (set-build n (λ (k : ℕ). f (suc k)) q x
-    ∙ build-ext n (λ (k : ℕ). cond (eqb k q) x (f (suc k))) (λ (k : ℕ). cond (eqb (suc k) (suc q)) x (f (suc k))) (λ k l. rw eqb·suc-suc))
 
 -- the stores of one operator
 either : (b c : Bool) (i x : ℕ) → cond b i (cond c i x) ≡ cond (c || b) i x

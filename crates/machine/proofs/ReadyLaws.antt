@@ -13,14 +13,11 @@ use lib.ListN.{length, getD}
 use lib.Pow.{pow-mono}
 use Rattle.lists.specs.Lists.{bit, build, sum, member}
 use Rattle.lists.proofs.Build.{order, build-ext}
+use Rattle.lists.proofs.Bits.{bit-le, bit-false}
 use Rattle.operator.specs.Op.{Op, Abstract, reads}
 use Rattle.machine.specs.Machine.{Machine, fireM}
 use Rattle.machine.specs.Ready.{SET, accepts, readyAt, bitsFrom, readySet}
 use Rattle.machine.proofs.ReaderLaws.{unread-past, fire-unread}
-
-bit-le : (b : Bool) → bit b ≤ 1
-bit-le true = omega arith
-bit-le false = omega arith
 
 -- a set's lowest bit, and the rest
 bits-low : (f : ℕ → Bool) (q n : ℕ) → bitsFrom f q (suc n) % 2 ≡ bit (f q)
@@ -54,13 +51,9 @@ unfolding readySet
 ready-bit a m q h = bits-bit (readyAt a m) 0 SET q h ∙ ap (λ (x : ℕ). bit (readyAt a m x)) (zero-add q)
 
 -- a set is 0 exactly where no test passes
-no-bit : (b : Bool) → bit b ≡ 0 → b ≡ false
-no-bit true h = absurd (omega arith)
-no-bit false h = refl
-
 pub bits-zero : (f : ℕ → Bool) (q n : ℕ) → bitsFrom f q n ≡ 0 → (k : ℕ) → k < n → f (q + k) ≡ false
 bits-zero f q zero h k l = absurd (omega arith)
-bits-zero f q (suc n) h zero l = ap f (add-zero q) ∙ no-bit (f q) (omega arith)
+bits-zero f q (suc n) h zero l = ap f (add-zero q) ∙ bit-false (f q) (omega arith)
 bits-zero f q (suc n) h (suc k) l = ap f (omega arith) ∙ bits-zero f (suc q) n (omega arith) k (omega arith)
 
 pub bits-zero-of : (f : ℕ → Bool) (q n : ℕ) → ((k : ℕ) → k < n → f (q + k) ≡ false) → bitsFrom f q n ≡ 0

@@ -1,16 +1,14 @@
 -- What a sheet has to satisfy so that the calls keep a machine good; every accepted sheet does.
 -- Assumes nothing.
-use mathlib.Core.Path.{_≡_, refl, sym, ap, _∙_, subst}
-use mathlib.Core.Bool.{Bool, true, false, not, _||_}
-use mathlib.Core.List.{List, [], _∷_}
+use mathlib.Core.Path.{_≡_, sym, ap, _∙_, subst}
+use mathlib.Core.Bool.{true, false}
 use Prim.Native.Nat.{ℕ, _≤_, _<_}
 use native.Mathlib.Omega.{arith}
-use lib.Dec.{eqb, ltb}
+use lib.Dec.{ltb}
 use lib.ListN.{length, getD}
-use borrow.Author.Tests.{not-true}
 use Rattle.lists.specs.Lists.{all, member, fresh}
-use Rattle.lists.proofs.Build.{never, build-length, build-getD}
-use Rattle.lists.proofs.Tests.{both, both-of}
+use Rattle.lists.proofs.Build.{never}
+use Rattle.lists.proofs.Fresh.{fresh-fewer}
 use Rattle.operator.specs.Op.{Op, double, Abstract, reads, defines, names, cursors}
 use Rattle.operator.specs.Memory.{view}
 use Rattle.operator.proofs.ViewLaws.{Small, small-view}
@@ -25,6 +23,7 @@ use Rattle.sheet.specs.Check.{checkOf}
 use Rattle.sheet.proofs.Accepted.{Accepted, accepted-facts}
 use Rattle.sheet.proofs.Passed.{five-parts}
 use Rattle.sheet.proofs.Laws.{cursor-alone}
+use Rattle.sheet.proofs.Placed.{ops-many, ops-at}
 
 -- the operator at a place (past the last, where nothing looks, any)
 abbrev pub opIn : Abstract → ℕ → Op
@@ -46,32 +45,9 @@ pub record Sound (a : Abstract) : Type 0 where
   pub alone : (i j v : ℕ) → i < length (a .ops) → j < length (a .ops) → (i ≡ j → ⊥) → member v (cursors (opIn a i)) ≡ true →
       member v (names (opIn a j)) ≡ false
 
--- what is fresh to a set is fresh to any smaller one
-fewer : (d e : Bool) → (e ≡ true → d ≡ true) → not d ≡ true → not e ≡ true
-fewer d true h n = never (sym (not-true d n) ∙ h refl)
-fewer d false h n = refl
-
-pub fresh-fewer : (d e : ℕ → Bool) (l : List ℕ) → ((k : ℕ) → e k ≡ true → d k ≡ true) → fresh d l ≡ true → fresh e l ≡ true
-fresh-fewer d e [] h f = refl
-fresh-fewer d e (k ∷ l) h f =
-    let p = both (not (d k)) (fresh (λ (x : ℕ). eqb x k || d x) l) f in
-    both-of (not (e k)) _ (fewer (d k) (e k) (h k) (p .0))
-    (fresh-fewer (λ (x : ℕ). eqb x k || d x) (λ (x : ℕ). eqb x k || e x) l (λ x. more (eqb x k) (d x) (e x) (h x)) (p .1))
-  where
-    more : (b c g : Bool) → (g ≡ true → c ≡ true) → (b || g) ≡ true → (b || c) ≡ true
-    more true c g i j = refl
-    more false c g i j = i j
-
 module _ (t : Sheet) (h : checkOf t ≡ accepted) where
   facts : Accepted t
   facts = accepted-facts t h
-
-  -- the sheet's operators by their places
-  many : length (viewSheet t .ops) ≡ t .count
-  many = build-length (t .count) (λ (k : ℕ). view (opAt t k))
-
-  at : (i : ℕ) → i < t .count → opIn (viewSheet t) i ≡ view (opAt t i)
-  at i l = build-getD (t .count) (λ (k : ℕ). view (opAt t k)) (double 0 0 0) i l
 
   operator-sound : (i : ℕ) → i < t .count → SoundOp (t .queues) (t .variables) (view (opAt t i))
   operator-sound i l =
@@ -90,7 +66,7 @@ module _ (t : Sheet) (h : checkOf t ≡ accepted) where
   alone-at : (i j v : ℕ) → i < t .count → j < t .count → (i ≡ j → ⊥) → member v (cursors (opIn (viewSheet t) i)) ≡ true →
       member v (names (opIn (viewSheet t) j)) ≡ false
   alone-at i j v a b d m =
-      ap (λ (o : Op). member v (names o)) (at j b) ∙ cursor-alone t h i j v a b d (sym (ap (λ (o : Op). member v (cursors o)) (at i a)) ∙ m)
+      ap (λ (o : Op). member v (names o)) (ops-at t j b) ∙ cursor-alone t h i j v a b d (sym (ap (λ (o : Op). member v (cursors o)) (ops-at t i a)) ∙ m)
 
   pub sound-of-accepted : Sound (viewSheet t)
   sound-of-accepted =
@@ -100,7 +76,7 @@ module _ (t : Sheet) (h : checkOf t ≡ accepted) where
         queues = r .queues;
         variables = r .variables;
         each = λ i l.
-            let b : i < t .count = omega (arith, many) in
-            subst (λ (o : Op). SoundOp (t .queues) (t .variables) o) (sym (at i b)) (operator-sound i b);
-        alone = λ i j v a b. alone-at i j v (omega (arith, many)) (omega (arith, many));
+            let b : i < t .count = omega (arith, ops-many t) in
+            subst (λ (o : Op). SoundOp (t .queues) (t .variables) o) (sym (ops-at t i b)) (operator-sound i b);
+        alone = λ i j v a b. alone-at i j v (omega (arith, ops-many t)) (omega (arith, ops-many t));
       }

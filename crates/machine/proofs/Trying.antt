@@ -9,6 +9,7 @@ use native.Mathlib.Omega.{arith}
 use lib.ListN.{length, getD, set, drop, length-set}
 use lib.IntN.{ℤ}
 use Rattle.lists.proofs.Build.{order}
+use Rattle.lists.proofs.Tests.{false-of}
 use Rattle.operator.specs.Op.{Op}
 use Rattle.operator.specs.Memory.{view}
 use Rattle.operator.specs.declared.Operator.{Operator}
@@ -89,10 +90,6 @@ module _ (o : Operator) (q : ℕ) (st : State) (s : List ℤ) (p : 0 < getD (st 
       attempt-done h = record { number = sym (ap numberIn (fire-room false (sym full-same ∙ h))); result = λ z. g }
 
 -- ---- no refusal: an item is there, the operator need not wait, and there is room
-
-false-of : (b : Bool) → (b ≡ true → ⊥) → b ≡ false
-false-of true h = absurd (h refl)
-false-of false h = refl
 
 not-zero : (r : Outcome) (k : ℕ) → numberIn r ≡ 0 → r ≡ refuse (suc k) → ⊥
 not-zero r k z e = let y : suc k ≡ 0 = sym (ap numberIn e) ∙ z in omega arith

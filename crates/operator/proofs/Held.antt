@@ -3,7 +3,6 @@
 use mathlib.Core.Path.{_≡_, refl, sym, _∙_}
 use mathlib.Core.List.{List, [], _∷_, map}
 use Prim.Native.Nat.{ℕ, zero, suc, _<_}
-use native.Mathlib.Omega.{arith}
 use lib.Dec.{lit<}
 use lib.ListN.{length, getD, length-map}
 use mir.Syntax.{w32}
@@ -13,6 +12,8 @@ use denote.Array.{each}
 use denote.Shadow.{shadow}
 use denote.Struct.Field.{Field, array-field, u8-field}
 use Rattle.lists.specs.Lists.{pad}
+use Rattle.lists.proofs.Pad.{pad-none}
+use Rattle.lists.proofs.Places.{getD-any}
 use Rattle.step.specs.Step.{noStep}
 use Rattle.step.specs.declared.Step.{Step}
 use Rattle.step.proofs.Step as step
@@ -82,12 +83,6 @@ held-of o vs p =
       step-highs = λ k. steps .1 k .high;
     }
 
--- places that hold the default alone
-pad-none : {A : Type 0} (n : ℕ) (d : A) (k : ℕ) → getD (pad n d []) k d ≡ d
-pad-none zero d k = refl
-pad-none (suc n) d zero = refl
-pad-none (suc n) d (suc k) = pad-none n d k
-
 no-byte : (k : ℕ) → getD (pad {A = ℕ} PLACES 0 []) k 0 < 256
 no-byte k = rw (pad-none {A = ℕ} PLACES 0 k) (lit< tt)
 
@@ -109,12 +104,6 @@ held-no-operator =
       step-lows = λ k. none k .low;
       step-highs = λ k. none k .high;
     }
-
--- below the length the default is never read
-pub getD-any : {A : Type 0} (l : List A) (k : ℕ) (d e : A) → k < length l → getD l k d ≡ getD l k e
-getD-any [] k d e h = absurd (omega arith)
-getD-any (x ∷ l) zero d e h = refl
-getD-any (x ∷ l) (suc k) d e h = getD-any l k d e (omega arith)
 
 -- the operators of an array; past its end the program reads an operator with empty arrays, which is not `noOperator`
 pub held-all : (n : ℕ) (l : List Operator) (vs : List Val) → Owned (array-field operator.the-field n) l vs →

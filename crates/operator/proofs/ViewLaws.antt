@@ -7,12 +7,12 @@ use mathlib.Core.Bool.{Bool, true, false, cond, _&&_, _||_, and-eq-true-iff}
 use Prim.Native.Nat.{ℕ, _<_, _≤_}
 use native.Mathlib.Omega.{arith}
 use lib.Dec.{eqb, ltb, leb}
-use lib.ListN.{length, getD, List·getD-eq-default}
+use lib.ListN.{length, getD}
 use borrow.Author.Tests.{leb-true, eqb-true, lt-ltb, le-ltb, le-leb, eq-eqb}
-use Rattle.lists.specs.Lists.{build, all, pad}
+use Rattle.lists.specs.Lists.{build, all}
 use Rattle.lists.proofs.Build.{never, never', order, build-length}
 use Rattle.lists.proofs.Tests.{both, both-of, all-build, all-build-of}
-use Rattle.lists.proofs.Pad.{pad-getD, pad-build, pad-back}
+use Rattle.lists.proofs.Pad.{pad-build, pad-back, pad-past}
 use Rattle.step.specs.Step.{noStep, blank}
 use Rattle.step.specs.declared.Step.{Step}
 use Rattle.step.proofs.Blank.{blank-no-step, blank-is}
@@ -155,10 +155,6 @@ view-memory (double p q r) h = refl
 view-memory (deal c p qs) h = ap (λ (l : List ℕ). deal c p l) (pad-build (length qs) PLACES 0 qs refl (h .1))
 view-memory (gather c q ps) h = ap (λ (l : List ℕ). gather c q l) (pad-build (length ps) PLACES 0 ps refl (h .1))
 
--- past the list the places hold what they are filled up with
-pad-past : {A : Type 0} (n : ℕ) (d : A) (l : List A) (k : ℕ) → length l ≤ k → k < n → getD (pad n d l) k d ≡ d
-pad-past n d l k h b = pad-getD n d l k b ∙ List·getD-eq-default l d h
-
 -- filled places are tidy where the shape uses all that is filled in
 placed-tidy : (s : Shape) (k : Kind) (n v f : ℕ) (ps qs : List ℕ) (ss : List Step) → s .least ≤ n → n ≤ s .most → length ps ≤ s .ins → length qs ≤ s .outs →
     length ss ≤ s .steps → (s .variable ≡ false → v ≡ 0) → (s .field ≡ false → f ≡ 0) → Tidy s (placed k n v f ps qs ss)
@@ -254,3 +250,11 @@ vacant-is o h e =
 pub vacant-no-operator : vacant noOperator ≡ true
 unfolding vacant tidyAs blank
 vacant-no-operator = refl
+
+-- what a kind's operator gives, the operator gives
+pub by-kind : {A : Type 0} (f : Op → A) (o : Operator) (k : Kind) → o .kind ≡ k → f (viewAs k o) ≡ f (view o)
+by-kind f o k e = ap (λ (j : Kind). f (viewAs j o)) (sym e)
+
+-- a ready operator has a kind
+pub not-empty : {A : Type 0} (o : Operator) → Ready o → o .kind ≡ Empty → A
+not-empty o r e = never' (sym (ap isEmpty e) ∙ r .some)

@@ -3,13 +3,12 @@
 use mathlib.Core.Path.{_≡_, refl, ap, sym, _∙_, subst, subst₂, fun-ext}
 use mathlib.Core.Bool.{Bool, true, false, not, _||_, or-comm}
 use mathlib.Core.List.{List, [], _∷_, map}
-use mathlib.Core.Option.{some, none}
 use Prim.Native.Nat.{ℕ, suc, _+_, _<_, _≤_}
 use native.Mathlib.Omega.{arith}
 use lib.Dec.{ltb}
 use lib.ListN.{length, getD}
 use borrow.Author.Tests.{not-true}
-use Rattle.lists.specs.Lists.{all, member}
+use Rattle.lists.specs.Lists.{all, member, bit}
 use Rattle.lists.proofs.Build.{build-length, build-getD, never}
 use Rattle.lists.proofs.Tests.{both, all-build, all-member}
 use Rattle.operator.specs.Op.{Op, line, latest, double, deal, gather, with, reads, defines, names}
@@ -20,18 +19,19 @@ use Rattle.judge.proofs.KnownLaws.{known-with}
 use Rattle.judge.proofs.JudgedLaws.{judged-four, judged-five, judged-six, judged-seven}
 use Rattle.format.proofs.Heads.{ranges-of-good}
 use Rattle.sheet.specs.declared.Sheet.{Sheet}
-use Rattle.sheet.specs.Answer.{Paper, accepted, isAccepted}
+use Rattle.sheet.specs.Answer.{accepted, isAccepted}
 use Rattle.sheet.specs.Sheet.{opAt, viewTo, viewSheet}
 use Rattle.sheet.specs.Check.{checkOf}
 use Rattle.sheet.proofs.Accepted.{Accepted, accepted-facts}
 use Rattle.sheet.proofs.Turns.{view-more}
 use Rattle.sheet.proofs.Passed.{four-reads, four-defines, five-parts, six-below}
+use Rattle.sheet.proofs.AnswerLaws.{accepted-of}
 use Rattle.counts.specs.Calm.{calmFrom, isCalm}
 use Rattle.theory.proofs.Equations.{Kind, Ways}
 use Rattle.theory.proofs.Denote.{takesFrom}
 use Rattle.theory.proofs.Sheets.{gives}
 use Rattle.theory.proofs.Rewrites.{All, none-left, also, all-of}
-use Rattle.theory.proofs.Accept.{bit, tot, holdsN}
+use Rattle.theory.proofs.Accept.{tot, holdsN}
 use Rattle.theory.proofs.Scan.{Passes, Scan, at-end, next, scan-acc}
 use Rattle.theory.proofs.Final.{Calm}
 use Rattle.order.specs.Order.{calmSheet}
@@ -170,10 +170,6 @@ pub calm-link : (t : Sheet) → checkOf t ≡ accepted → isCalm (viewSheet t) 
 calm-link t h c = good-of-accepted t h c .calm
 
 -- the same from the one test
-pub accepted-of : (p : Paper) → isAccepted p ≡ true → p ≡ accepted
-accepted-of none h = refl
-accepted-of (some x) h = never h
-
 pub good-of-calm : (t : Sheet) → calmSheet t ≡ true → GoodSheet (viewSheet t)
 good-of-calm t h = let p = both (isAccepted (checkOf t)) (isCalm (viewSheet t)) h in good-of-accepted t (accepted-of (checkOf t) (p .0)) (p .1)
 

@@ -12,6 +12,7 @@ use Rattle.sheet.specs.declared.Sheet.{Sheet}
 use Rattle.sheet.specs.Answer.{accepted, isAccepted}
 use Rattle.sheet.specs.Sheet.{viewSheet}
 use Rattle.sheet.specs.Check.{checkOf}
+use Rattle.sheet.proofs.AnswerLaws.{accepted-of}
 use Rattle.counts.specs.Calm.{isCalm}
 use Rattle.machine.specs.Machine.{Machine, runM}
 use Rattle.machine.specs.Numbers.{GoodM}
@@ -33,7 +34,7 @@ use Rattle.order.proofs.FeedLink.{fedAll, fresh-feeds, fed-begins, give
 use Rattle.order.proofs.WorstLink.{counted, given-few, counts-hold}
 use Rattle.order.proofs.OutputLink.{outputs-as, same-lists, same-take}
 use Rattle.order.proofs.RunLink.{run-link, rest-link}
-use Rattle.order.proofs.CalmLink.{accepted-of, calm-link-of}
+use Rattle.order.proofs.CalmLink.{calm-link-of}
 use Rattle.order.proofs.MadeLink.{MadeAs, made-link}
 
 -- ---- one side
@@ -105,7 +106,7 @@ variable-of x d k = ap (λ (u : State TItem ℤ). u .var k) (d .state)
 
 -- ---- the two sides
 
-pub agree : (x y : Side) → calmSheet (x .sheet) ≡ true → MadeAs (x .sheet) (y .sheet) → GoodSide x → GoodSide y → SameFeeds x y → Agreed x y
+agree : (x y : Side) → calmSheet (x .sheet) ≡ true → MadeAs (x .sheet) (y .sheet) → GoodSide x → GoodSide y → SameFeeds x y → Agreed x y
 agree x y c v gx gy same =
     let s = sound-of-accepted (x .sheet) (checked (x .sheet) c) in
     let dx = side-done x c gx in
@@ -119,6 +120,8 @@ agree x y c v gx gy same =
     record {
       fed-first = dx .fed;
       fed-second = dy .fed;
+      ran-first = ap (λ (k : Call). k .answer) (dx .left);
+      ran-second = ap (λ (k : Call). k .answer) (dy .left);
       at-rest-first = dx .ready;
       at-rest-second = dy .ready;
       items = same-lists (outputs (y .sheet) (ended y)) (outputs (x .sheet) (ended x))

@@ -15,6 +15,7 @@ use lib.IntN.{ℤ, pos, negsuc}
 use borrow.Author.Tests.{eq-eqb, eqb-true, eqb-false, ltb-true}
 use Rattle.lists.specs.Lists.{member}
 use Rattle.lists.proofs.Tests.{both}
+use Rattle.lists.proofs.Places.{getD-any}
 use Rattle.operator.specs.Op.{Op, line, latest, double, deal, gather, reads, names}
 use Rattle.store.specs.declared.Item.{Item}
 use Rattle.effect.specs.declared.Flow.{Flow}
@@ -23,7 +24,7 @@ use Rattle.effect.specs.Effect.{natOf, cursorAt, movedOn, effect, waits, inWays
 use Rattle.effect.proofs.Cursors.{in-ways-below}
 use Rattle.theory.proofs.Trace.{mark}
 use Rattle.theory.proofs.Steps.{upd, lineOp}
-use Rattle.theory.proofs.Deal.{onward, oneOf, one-of, getD-else, dealOp, gatherOp}
+use Rattle.theory.proofs.Deal.{onward, oneOf, one-of, dealOp, gatherOp}
 use Rattle.theory.proofs.Denote.{denote, latestOp, doubleOp}
 use Rattle.order.proofs.Model.{TItem, kindAs}
 use Rattle.order.proofs.LineLink.{varsAs, set-as, Left, Known, line-as}
@@ -70,7 +71,7 @@ waits-as (deal c p qs) q vs m g = only-one q p m
 waits-as (gather c r ps) q vs m g =
     let l = in-ways-below (getD vs c (pos 0)) (length ps) g in
     ap (λ (k : ℕ). eqb k q)
-    (ap (λ (n : ℕ). getD ps n (getD ps 0 0)) (nat-as (getD vs c (pos 0))) ∙ getD-else ps (cursorAt c vs) (getD ps 0 0) 0 l)
+    (ap (λ (n : ℕ). getD ps n (getD ps 0 0)) (nat-as (getD vs c (pos 0))) ∙ getD-any ps (cursorAt c vs) (getD ps 0 0) 0 l)
     ∙ sym (not-not (eqb (getD ps (cursorAt c vs) 0) q))
 
 -- ---- what it puts where

@@ -3,15 +3,16 @@
 use mathlib.Core.Path.{_≡_, refl, sym, ap, _∙_, subst, fun-ext}
 use mathlib.Core.Bool.{Bool, true, false, cond}
 use mathlib.Core.List.{List, [], _∷_, _++_, append-assoc, append-nil}
-use Prim.Native.Nat.{ℕ, zero, suc, _+_, _≤_, _<_}
+use Prim.Native.Nat.{ℕ, _+_, _≤_, _<_}
 use native.Mathlib.Omega.{arith}
 use lib.Dec.{eqb, ltb}
-use lib.ListN.{length, getD, replicate, length-set, length-append}
+use lib.ListN.{length, getD, length-set, length-append}
 use lib.Seq.{getD-set-same, getD-set-other}
 use lib.IntN.{ℤ, pos}
 use borrow.Author.Tests.{ltb-true, eqb-true, eqb-false, eq-eqb}
 use Rattle.lists.proofs.Build.{never}
 use Rattle.lists.proofs.Tests.{both}
+use Rattle.lists.proofs.Places.{same-at}
 use Rattle.sheet.specs.declared.Sheet.{Sheet}
 use Rattle.sheet.specs.Answer.{accepted}
 use Rattle.sheet.specs.Sheet.{viewSheet}
@@ -122,11 +123,6 @@ feeds-held t h (x ∷ xs) m g i w r =
       left = ap (λ (c : Call). fed t c xs) one ∙ rest .left;
       good = rest .good;
     }
-
-same-at : {A : Type 0} (n : ℕ) (d : A) (k : ℕ) → getD (replicate n d) k d ≡ d
-same-at zero d k = refl
-same-at (suc n) d zero = refl
-same-at (suc n) d (suc k) = same-at n d k
 
 module _ (t : Sheet) (h : checkOf t ≡ accepted) (xs : List Feed) where
   -- after a fresh start

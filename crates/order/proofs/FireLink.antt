@@ -13,8 +13,9 @@ use lib.IntN.{ℤ}
 use Rattle.lists.specs.Lists.{all, member, times}
 use Rattle.lists.proofs.Build.{order}
 use Rattle.lists.proofs.Tests.{all-getD}
+use Rattle.lists.proofs.Members.{all-below}
+use Rattle.lists.proofs.Places.{getD-any}
 use Rattle.operator.specs.Op.{Op, double, Abstract, reads, names}
-use Rattle.judge.proofs.JudgedLaws.{all-below}
 use Rattle.store.specs.declared.Item.{Item}
 use Rattle.store.specs.Store.{ROOM, QUEUES}
 use Rattle.effect.specs.Effect.{effect, waits, cursorGood}
@@ -24,7 +25,6 @@ use Rattle.machine.specs.Numbers.{GoodM}
 use Rattle.machine.proofs.Sound.{opIn, Sound}
 use Rattle.theory.proofs.Model.{State, push, pop, room, after, pass, gate, step}
 use Rattle.theory.proofs.Trace.{mark}
-use Rattle.theory.proofs.Deal.{getD-else}
 use Rattle.theory.proofs.Equations.{Kind}
 use Rattle.theory.proofs.Denote.{denote, takesFrom}
 use Rattle.theory.proofs.Sheets.{blank, find, opAt, op-at}
@@ -142,7 +142,7 @@ op-as : (os : List Op) (i : ℕ) → i < length os → opAt (map kindAs os) i �
 op-as os i l =
     let b : i < length (map kindAs os) = rw (length-map os kindAs) l in
     op-at (map kindAs os) i b
-    ∙ ap denote (getD-else (map kindAs os) i blank (kindAs (double 0 0 0)) b ∙ List·getD-map kindAs os i (double 0 0 0))
+    ∙ ap denote (getD-any (map kindAs os) i blank (kindAs (double 0 0 0)) b ∙ List·getD-map kindAs os i (double 0 0 0))
 
 module _ (a : Abstract) (sound : Sound a) (m : Machine) (g : GoodM a m) where
   ready : (i : ℕ) → i < length (a .ops) → Ready (opIn a i) m

@@ -10,9 +10,11 @@ use lib.Dec.{ltb, leb}
 use lib.ListN.{length, take, drop}
 use lib.Seq.{split-at}
 use borrow.Author.Tests.{lt-ltb, le-ltb, le-leb}
-use Rattle.lists.specs.Lists.{all, any, member, fresh}
+use Rattle.lists.specs.Lists.{all, any, member, fresh, bit}
 use Rattle.lists.proofs.Build.{order, never}
 use Rattle.lists.proofs.Tests.{both-of, all-build-of}
+use Rattle.lists.proofs.Members.{all-of-members}
+use Rattle.lists.proofs.Bits.{bit-false, bit-or, bit-one}
 use Rattle.operator.specs.Op.{Op, line, latest, double, deal, gather, Abstract, reads, defines, names, cursors}
 use Rattle.operator.proofs.ViewLaws.{Small}
 use Rattle.judge.specs.Judge.{Known, known, knownOf, judgeBy, judge, whole, four, five, six, variablesGood}
@@ -24,10 +26,9 @@ use Rattle.sheet.specs.Check.{checkOf}
 use Rattle.sheet.proofs.Accepted.{facts-accepted}
 use Rattle.sheet.proofs.Placed.{nth, cutTo, view-back, accepted-placed}
 use Rattle.counts.specs.Calm.{calmFrom, isCalm}
-use Rattle.counts.proofs.CalmLaws.{all-of-members}
 use Rattle.theory.proofs.Equations.{Kind}
 use Rattle.theory.proofs.Rewrites.{all-at}
-use Rattle.theory.proofs.Accept.{bit, bit-one, tot, tot-append, givesN, readsN, holdsN, Ord, ord-head}
+use Rattle.theory.proofs.Accept.{tot, tot-append, givesN, readsN, holdsN, Ord, ord-head}
 use Rattle.theory.proofs.FuseAcc.{ord-right}
 use Rattle.theory.proofs.Final.{Calm}
 use Rattle.order.proofs.Model.{kindAs}
@@ -58,14 +59,6 @@ module _ (f : Op → Bool) (n : Kind → ℕ) where
       go true e i = refl
       go false e i = i (omega (arith, none (n (kindAs o)) e refl))
 
-bit-false : (b : Bool) → bit b ≡ 0 → b ≡ false
-bit-false true h = absurd (omega arith)
-bit-false false h = refl
-
-or-bit : (a b : Bool) → bit (a || b) ≤ bit a + bit b
-or-bit true b = omega arith
-or-bit false b = omega arith
-
 or-one : (a b : Bool) (n : ℕ) → (1 ≤ n → b ≡ true) → 1 ≤ bit a + n → (a || b) ≡ true
 or-one true b n f h = refl
 or-one false b n f h = f (omega arith)
@@ -85,7 +78,7 @@ module _ (I : ℕ) (os : List Op) where
   defined-most : (q : ℕ) → bit (knownOf I os .defined q) ≤ bit (ltb q I) + tot (givesN q) (map kindAs os)
   defined-most q =
       let a = any-tot (λ (o : Op). member q (defines o)) (givesN q) (λ o h. rw (gives-occ q o) (occ-member q (defines o) h)) os in
-      omega (arith, or-bit (ltb q I) (any (λ (o : Op). member q (defines o)) os))
+      omega (arith, bit-or (ltb q I) (any (λ (o : Op). member q (defines o)) os))
 
   defined-of : (q : ℕ) → 1 ≤ bit (ltb q I) + tot (givesN q) (map kindAs os) → knownOf I os .defined q ≡ true
   defined-of q h =

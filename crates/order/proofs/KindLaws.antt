@@ -8,7 +8,7 @@ use Prim.Native.Nat.{ℕ, _+_, _≤_}
 use native.Mathlib.Omega.{arith}
 use lib.Dec.{eqb}
 use borrow.Author.Tests.{eq-eqb, ne-eqb, not-true}
-use Rattle.lists.specs.Lists.{member, fresh, chain}
+use Rattle.lists.specs.Lists.{member, fresh, chain, bit}
 use Rattle.lists.proofs.Build.{same-or, never}
 use Rattle.lists.proofs.Tests.{both, both-of, or-cases, neither, member-append}
 use Rattle.step.specs.Step.{rowOf, stepNames}
@@ -20,7 +20,7 @@ use Rattle.theory.proofs.Steps.{named, lineOp}
 use Rattle.theory.proofs.Deal.{oneOf, dealOp, gatherOp}
 use Rattle.theory.proofs.Denote.{denote, takesFrom, latestOp, doubleOp}
 use Rattle.theory.proofs.Sheets.{gives, holds}
-use Rattle.theory.proofs.Accept.{bit, tot, occ, givesN, readsN}
+use Rattle.theory.proofs.Accept.{tot, occ, givesN, readsN}
 use Rattle.order.proofs.Model.{stepBy, stepAs, kindAs}
 
 -- how often a queue stands in a list

@@ -1,7 +1,7 @@
 -- A measure of a machine that every firing of an accepted sheet lowers: an item weighs three times what an item further on does.
 -- Assumes nothing.
 use mathlib.Core.Path.{_≡_, refl, ap, _∙_}
-use mathlib.Core.Bool.{Bool, true, false, cond, _||_}
+use mathlib.Core.Bool.{Bool, true, false, cond}
 use mathlib.Core.List.{List, [], _∷_, _++_, map}
 use Prim.Native.Nat.{ℕ, zero, suc, _+_, _*_, _-_, _^_, _≤_, _<_}
 use native.Mathlib.Nat.{pow-suc, add-zero}
@@ -11,7 +11,7 @@ use lib.ListN.{length, getD, set, length-append}
 use lib.IntN.{ℤ}
 use borrow.Author.Tests.{eq-eqb}
 use Rattle.lists.specs.Lists.{member, sum}
-use Rattle.lists.proofs.Tests.{all-getD}
+use Rattle.lists.proofs.Tests.{all-getD, or-right}
 use Rattle.operator.specs.Op.{Op, line, latest, double, deal, gather, Abstract, reads}
 use Rattle.store.specs.declared.Item.{Item}
 use Rattle.effect.specs.Flow.{lined}
@@ -89,10 +89,6 @@ thirds w [] n h = omega arith
 thirds w (q ∷ to) n h =
     omega
     (arith, h q (rw (eq-eqb q q refl)), thirds w to n (λ r m. h r (or-right (eqb r q) (member r to) m)), mul-suc (length to) n)
-  where
-    or-right : (a b : Bool) → b ≡ true → (a || b) ≡ true
-    or-right true b e = refl
-    or-right false b e = e
 
 -- ---- weights by the reader's place
 

@@ -1,6 +1,7 @@
 -- The product's operators and machines as the theory sees them.
+use mathlib.Core.Path.{_≡_, refl, ap, _∙_, sym}
 use Prim.Native.Nat.{ℕ}
-use mathlib.Core.List.{List, [], map}
+use mathlib.Core.List.{List, [], _∷_, map}
 use lib.ListN.{getD}
 use lib.IntN.{ℤ, pos}
 use Rattle.step.specs.declared.Func.{Func}
@@ -49,3 +50,14 @@ itemsAs xs = map itemAs xs
 
 abbrev pub stateAs : Machine → State TItem ℤ
 stateAs m = record { queue = λ (q : ℕ). itemsAs (getD (m .queues) q []); var = λ (k : ℕ). getD (m .vars) k (pos 0) }
+
+-- lists of items that the theory cannot tell apart are the same
+abbrev pub itemOf : TItem → Item
+itemOf x = record { f = x }
+
+pub items-back : (xs : List Item) → map itemOf (itemsAs xs) ≡ xs
+items-back [] = refl
+items-back (x ∷ xs) = ap (λ (ys : List Item). x ∷ ys) (items-back xs)
+
+pub same-items : (xs ys : List Item) → itemsAs xs ≡ itemsAs ys → xs ≡ ys
+same-items xs ys e = sym (items-back xs) ∙ ap (map itemOf) e ∙ items-back ys

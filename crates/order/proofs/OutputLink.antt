@@ -24,7 +24,7 @@ use Rattle.machine.proofs.Sound.{sound-of-accepted}
 use Rattle.theory.proofs.Equations.{Whole}
 use Rattle.theory.proofs.Rewrites.{readBy, harvest}
 use Rattle.order.specs.Order.{kept, outputsIn, outputs}
-use Rattle.order.proofs.Model.{TItem, kindAs, kindsAs, itemsAs, stateAs}
+use Rattle.order.proofs.Model.{TItem, kindAs, kindsAs, itemsAs, stateAs, itemOf, items-back}
 use Rattle.order.proofs.KindLaws.{takes-member}
 use Rattle.order.proofs.Held.{held}
 
@@ -84,13 +84,6 @@ module _ (t : Sheet) (h : checkOf t ≡ accepted) (m : Machine) (g : GoodM (view
       (λ k l. no-output k (omega arith)) (λ k l. ap (λ (j : ℕ). itemsAs (getD (m .queues) j [])) (zero-add k))
 
 -- ---- the way back from the theory's items
-
-abbrev itemOf : TItem → Item
-itemOf x = record { f = x }
-
-items-back : (xs : List Item) → map itemOf (itemsAs xs) ≡ xs
-items-back [] = refl
-items-back (x ∷ xs) = ap (λ (ys : List Item). x ∷ ys) (items-back xs)
 
 lists-back : (xs : List (List Item)) → map (λ (x : List TItem). map itemOf x) (map itemsAs xs) ≡ xs
 lists-back [] = refl

@@ -2,7 +2,7 @@
 -- Assumes nothing.
 use mathlib.Core.Path.{_≡_, refl, ap, _∙_, subst}
 use mathlib.Core.Option.{Option, some}
-use mathlib.Core.Bool.{Bool, true, false, not, _&&_, _||_}
+use mathlib.Core.Bool.{Bool, true, false, not, _&&_}
 use mathlib.Core.List.{List, [], _∷_, _++_, map-append}
 use mathlib.Core.Logic.{⊎-elim}
 use Prim.Native.Nat.{ℕ, zero, suc, _≤_, _<_}
@@ -10,11 +10,12 @@ use native.Mathlib.Omega.{arith}
 use lib.Dec.{eqb, ltb, leb}
 use lib.ListN.{length, getD, set, length-map, length-set}
 use lib.Seq.{getD-set-same, getD-set-other}
-use borrow.Author.Tests.{eq-eqb, ne-eqb, eqb-true, ltb-true, lt-ltb, le-ltb, leb-true, leb-false}
-use Rattle.lists.specs.Lists.{all, any, member, bit, times}
-use Rattle.lists.proofs.Build.{same-or, order, never}
-use Rattle.lists.proofs.Tests.{both, neither, or-cases, all-member}
-use Rattle.lists.proofs.Times.{times-member}
+use borrow.Author.Tests.{eq-eqb, ne-eqb, ltb-true, lt-ltb, le-ltb, leb-true, leb-false}
+use Rattle.lists.specs.Lists.{all, member, times}
+use Rattle.lists.proofs.Build.{same-or, order}
+use Rattle.lists.proofs.Tests.{both, all-member}
+use Rattle.lists.proofs.Times.{once-first}
+use Rattle.lists.proofs.Members.{some-member, no-member}
 use Rattle.store.specs.declared.Item.{Item}
 use Rattle.store.specs.Store.{ROOM}
 use Rattle.machine.specs.Machine.{full, putAll}
@@ -33,14 +34,6 @@ take-as qs q x xs k l e =
     (same-or k q)
 
 -- ---- puts
-
--- the first of a list that holds nothing twice stands nowhere in the rest
-once-first : (q : ℕ) (l : List ℕ) → ((k : ℕ) → times k (q ∷ l) ≤ 1) → member q l ≡ false
-once-first q l h = go (member q l) refl
-  where
-    go : (b : Bool) → member q l ≡ b → b ≡ false
-    go true m = absurd (omega (arith, times-member q l m, ap bit (eq-eqb q q refl), h q))
-    go false m = refl
 
 push-as : (xs : List Item) (x : Item) → itemsAs (xs ++ (x ∷ [])) ≡ itemsAs xs ++ (x .f ∷ [])
 push-as xs x = map-append itemAs xs (x ∷ [])
@@ -64,25 +57,6 @@ puts-at qs (q ∷ to) x k o b =
     (same-or k q)
 
 -- ---- room
-
-some-member : (f : ℕ → Bool) (l : List ℕ) → any f l ≡ true → (k : ℕ) × ((member k l ≡ true) × (f k ≡ true))
-some-member f [] h = never h
-some-member f (x ∷ l) h = go (f x) refl h (λ r. some-member f l r)
-  where
-    either : (a b : Bool) → b ≡ true → (a || b) ≡ true
-    either true b e = refl
-    either false b e = e
-
-    go : (b : Bool) → f x ≡ b → (b || any f l) ≡ true → (any f l ≡ true → (k : ℕ) × ((member k l ≡ true) × (f k ≡ true))) →
-        (k : ℕ) × ((member k (x ∷ l) ≡ true) × (f k ≡ true))
-    go true e h ih = (x, (rw (eq-eqb x x refl), e))
-    go false e h ih = let r = ih h in (r .0, (either (eqb (r .0) x) (member (r .0) l) (r .1 .0), r .1 .1))
-
-no-member : (f : ℕ → Bool) (l : List ℕ) (k : ℕ) → any f l ≡ false → member k l ≡ true → f k ≡ false
-no-member f [] k h m = never m
-no-member f (x ∷ l) k h m =
-    let p = neither (f x) (any f l) h in
-    ⊎-elim (λ e. rw (eqb-true k x e) (p .0)) (λ r. no-member f l k (p .1) r) (or-cases (eqb k x) (member k l) m)
 
 module _ (bound : ℕ) (put : ℕ → Option TItem) (queue : ℕ → List TItem) where
   room-of-all : (n : ℕ) → ((k : ℕ) → k < n → fits bound (put k) (queue k) ≡ true) → room bound n put queue ≡ true

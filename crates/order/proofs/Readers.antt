@@ -1,44 +1,25 @@
 -- In an accepted sheet a queue has one reader at most, and the reader of a queue stands behind the operator that defines it.
 -- Assumes nothing.
-use mathlib.Core.Path.{_≡_, refl, sym, ap, _∙_}
+use mathlib.Core.Path.{_≡_, sym, ap, _∙_}
 use mathlib.Core.Logic.{_⊎_, ⊎-elim}
 use mathlib.Core.Bool.{true}
-use mathlib.Core.List.{List, [], _∷_}
-use Prim.Native.Nat.{ℕ, zero, suc, _≤_, _<_}
+use Prim.Native.Nat.{ℕ, _<_}
 use native.Mathlib.Omega.{arith}
-use lib.ListN.{length, getD}
+use lib.ListN.{length}
 use borrow.Author.Tests.{lt-ltb}
-use Rattle.lists.specs.Lists.{build, member, chain, times}
-use Rattle.lists.proofs.Build.{same-or, build-length, build-getD}
-use Rattle.lists.proofs.Times.{times-append, times-member}
+use Rattle.lists.specs.Lists.{build, member, chain}
+use Rattle.lists.proofs.Build.{same-or}
+use Rattle.lists.proofs.Times.{times-append, times-member, once-in-chain, twice-in-chain}
+use Rattle.lists.proofs.Members.{member-below}
 use Rattle.operator.specs.Op.{Op, double, Abstract, reads, defines}
 use Rattle.operator.specs.Memory.{view}
 use Rattle.sheet.specs.declared.Sheet.{Sheet}
 use Rattle.sheet.specs.Answer.{accepted}
 use Rattle.sheet.specs.Sheet.{opAt, viewSheet}
 use Rattle.sheet.specs.Check.{checkOf}
-use Rattle.sheet.proofs.Once.{member-below}
 use Rattle.sheet.proofs.Laws.{define-below, defined-once, read-at-most-once, read-is-earlier}
+use Rattle.sheet.proofs.Placed.{ops-many, ops-at}
 use Rattle.machine.proofs.Sound.{opIn}
-
--- ---- a number in the lists of two elements stands twice in the chain
-
-module _ {A : Type 0} (k : ℕ) (f : A → List ℕ) (d : A) where
-  pub once-in-chain : (l : List A) (i : ℕ) → i < length l → member k (f (getD l i d)) ≡ true → 1 ≤ times k (chain f l)
-  once-in-chain [] i b h = absurd (omega arith)
-  once-in-chain (x ∷ l) zero b h = omega (arith, times-append k (f x) (chain f l), times-member k (f x) h)
-  once-in-chain (x ∷ l) (suc i) b h = omega (arith, times-append k (f x) (chain f l), once-in-chain l i (omega arith) h)
-
-  pub twice-in-chain : (l : List A) (i j : ℕ) → i < length l → j < length l → (i ≡ j → ⊥) → member k (f (getD l i d)) ≡ true →
-      member k (f (getD l j d)) ≡ true → 2 ≤ times k (chain f l)
-  twice-in-chain [] i j b c ne h g = absurd (omega arith)
-  twice-in-chain (x ∷ l) zero zero b c ne h g = absurd (ne refl)
-  twice-in-chain (x ∷ l) zero (suc j) b c ne h g =
-      omega (arith, times-append k (f x) (chain f l), times-member k (f x) h, once-in-chain l j (omega arith) g)
-  twice-in-chain (x ∷ l) (suc i) zero b c ne h g =
-      omega (arith, times-append k (f x) (chain f l), times-member k (f x) g, once-in-chain l i (omega arith) h)
-  twice-in-chain (x ∷ l) (suc i) (suc j) b c ne h g =
-      omega (arith, times-append k (f x) (chain f l), twice-in-chain l i j (omega arith) (omega arith) (λ e. ne (ap suc e)) h g)
 
 -- ---- items go on to operators further on
 
@@ -51,12 +32,6 @@ pub record Onward (a : Abstract) : Type 0 where
 module _ (t : Sheet) (h : checkOf t ≡ accepted) where
   abbrev a : Abstract
   a = viewSheet t
-
-  many : length (a .ops) ≡ t .count
-  many = build-length (t .count) (λ (k : ℕ). view (opAt t k))
-
-  at : (i : ℕ) → i < t .count → opIn a i ≡ view (opAt t i)
-  at i l = build-getD (t .count) (λ (k : ℕ). view (opAt t k)) (double 0 0 0) i l
 
   reader-one : (i j q : ℕ) → i < length (a .ops) → j < length (a .ops) → member q (reads (opIn a i)) ≡ true →
       member q (reads (opIn a j)) ≡ true → i ≡ j
@@ -93,16 +68,16 @@ module _ (t : Sheet) (h : checkOf t ≡ accepted) where
   behind : (i j q : ℕ) → i < length (a .ops) → j < length (a .ops) → member q (defines (opIn a i)) ≡ true →
       member q (reads (opIn a j)) ≡ true → i < j
   behind i j q b c m n =
-      let bi : i < t .count = omega (arith, many) in
-      let bj : j < t .count = omega (arith, many) in
-      let mi : member q (defines (view (opAt t i))) ≡ true = ap (λ (o : Op). member q (defines o)) (sym (at i bi)) ∙ m in
-      let nj : member q (reads (view (opAt t j))) ≡ true = ap (λ (o : Op). member q (reads o)) (sym (at j bj)) ∙ n in
+      let bi : i < t .count = omega (arith, ops-many t) in
+      let bj : j < t .count = omega (arith, ops-many t) in
+      let mi : member q (defines (view (opAt t i))) ≡ true = ap (λ (o : Op). member q (defines o)) (sym (ops-at t i bi)) ∙ m in
+      let nj : member q (reads (view (opAt t j))) ≡ true = ap (λ (o : Op). member q (reads o)) (sym (ops-at t j bj)) ∙ n in
       let l : q < t .queues = define-below t h i q bi mi in
       ⊎-elim (λ (e : q < t .inputs). absurd (no-input i q l b m e))
       (λ (r : (k : ℕ) × ((k < j) × (member q (defines (view (opAt t k))) ≡ true))).
       let bk : r .0 < t .count = omega (arith, r .1 .0) in
-      let mk : member q (defines (opIn a (r .0))) ≡ true = ap (λ (o : Op). member q (defines o)) (at (r .0) bk) ∙ r .1 .1 in
-      let e : r .0 ≡ i = define-one (r .0) i q l (omega (arith, many)) b mk m in
+      let mk : member q (defines (opIn a (r .0))) ≡ true = ap (λ (o : Op). member q (defines o)) (ops-at t (r .0) bk) ∙ r .1 .1 in
+      let e : r .0 ≡ i = define-one (r .0) i q l (omega (arith, ops-many t)) b mk m in
       omega (arith, r .1 .0))
       (read-is-earlier t h j q bj nj)
 

@@ -1,6 +1,6 @@
 -- A run, a state at rest and a whole state of the product are the theory's.
 -- Assumes nothing.
-use mathlib.Core.Path.{_≡_, refl, sym, ap, ap₂, _∙_, subst}
+use mathlib.Core.Path.{_≡_, refl, sym, ap, _∙_, subst}
 use mathlib.Core.Option.{Option, none}
 use mathlib.Core.Bool.{true, false}
 use mathlib.Core.List.{List, [], _∷_}
@@ -19,14 +19,13 @@ use Rattle.operator.specs.Op.{double, Abstract, reads}
 use Rattle.machine.specs.Machine.{Machine, Outcome, refuse, done, fireM, Ran, ranOn, runFrom, runM}
 use Rattle.machine.specs.Ready.{SET, accepts, readySet}
 use Rattle.machine.specs.Numbers.{GoodM}
-use Rattle.store.specs.declared.Item.{Item}
 use Rattle.machine.proofs.Sound.{opIn, Sound}
 use Rattle.machine.proofs.Keeps.{fire-keeps}
 use Rattle.machine.proofs.ReadyLaws.{ready-rest, rest-ready}
 use Rattle.theory.proofs.Runs.{Rest, exec, fired, orElse, tick}
 use Rattle.theory.proofs.Model.{State}
 use Rattle.theory.proofs.Orders.{fires}
-use Rattle.order.proofs.Model.{TItem, kindsAs, stateAs, itemsAs}
+use Rattle.order.proofs.Model.{TItem, kindsAs, stateAs, same-items}
 use Rattle.order.proofs.FireLink.{outcomeAs, fire-as}
 
 -- ---- a run
@@ -87,18 +86,6 @@ module _ (a : Abstract) (sound : Sound a) where
 
 -- ---- from the theory's state back to the machine
 
-item-eq : (x y : Item) → x .f ≡ y .f → x ≡ y
-item-eq x y e = λ i. record { f = e i }
-
-items-back : (xs ys : List Item) → itemsAs xs ≡ itemsAs ys → xs ≡ ys
-items-back [] [] e = refl
-items-back [] (y ∷ ys) e = absurd (omega (arith, ap length e))
-items-back (x ∷ xs) [] e = absurd (omega (arith, ap length e))
-items-back (x ∷ xs) (y ∷ ys) e =
-    let h : x .f ≡ y .f = cc in
-    let t : itemsAs xs ≡ itemsAs ys = cc in
-    ap₂ (λ (z : Item) (zs : List Item). z ∷ zs) (item-eq x y h) (items-back xs ys t)
-
 machine-eq : (m m′ : Machine) → m .queues ≡ m′ .queues → m .vars ≡ m′ .vars → m ≡ m′
 machine-eq m m′ p q = λ i. record { queues = p i; vars = q i }
 
@@ -106,5 +93,5 @@ pub state-back : (a : Abstract) (m m′ : Machine) → GoodM a m → GoodM a m�
 state-back a m m′ g g′ e =
     machine-eq m m′
     (ext-getD [] (m .queues) (m′ .queues) (g .many ∙ sym (g′ .many))
-    (λ q l. items-back (getD (m .queues) q []) (getD (m′ .queues) q []) (ap (λ (s : State TItem ℤ). s .queue q) e)))
+    (λ q l. same-items (getD (m .queues) q []) (getD (m′ .queues) q []) (ap (λ (s : State TItem ℤ). s .queue q) e)))
     (ext-getD (pos 0) (m .vars) (m′ .vars) (g .size ∙ sym (g′ .size)) (λ k l. ap (λ (s : State TItem ℤ). s .var k) e))

@@ -1,17 +1,22 @@
 -- The table of slips, computed; and that the rewriter, the calm test and the ready set do not make them.
 -- Assumes nothing.
-use mathlib.Core.Path.{_≡_, refl}
+use mathlib.Core.Path.{_≡_, refl, ap, _∙_}
 use mathlib.Core.Bool.{true, false}
+use lib.ListN.{replicate}
+use lib.IntN.{pos}
 use Rattle.lists.specs.Lists.{all}
 use Rattle.step.specs.Step.{stepNames, stepVariable, unusedZ, fieldPlace, stepPlaces, blank}
 use Rattle.operator.specs.Memory.{tidyAs, memoryNumber, vacant}
 use Rattle.judge.specs.Judge.{four, five, six, seven, judgeBy, whole}
 use Rattle.format.specs.Head.{headGood}
+use Rattle.sheet.specs.declared.Sheet.{Sheet}
 use Rattle.sheet.specs.Answer.{accepted, refused}
 use Rattle.sheet.specs.Sheet.{viewSheet}
 use Rattle.sheet.specs.Check.{checkFrom, ending, checkOf}
 use Rattle.counts.specs.Calm.{isCalm}
-use Rattle.store.specs.Store.{part, withPart, fields, firstOf}
+use Rattle.counts.specs.Worst.{feedGood}
+use Rattle.counts.specs.Answers.{worstOf}
+use Rattle.store.specs.Store.{STORE, part, withPart, fields, firstOf}
 use Rattle.store.specs.Queues.{encodeItems, queuePart, storeOf, itemsOf, queuesOf}
 use Rattle.store.specs.Quiet.{quietQueue, quietFrom}
 use Rattle.effect.specs.Flow.{does, stepped}
@@ -19,17 +24,50 @@ use Rattle.effect.specs.Effect.{effect, waits, cursorGood}
 use Rattle.machine.specs.Machine.{commit, fireFrom, fireFirst, runFrom}
 use Rattle.machine.specs.Ready.{readySet}
 use Rattle.machine.specs.Numbers.{good}
-use Rattle.machine.specs.Calls.{fireOf, runOf, readyOf}
+use Rattle.machine.specs.Calls.{Call, freshOf, fireOf, runOf, readyOf}
+use Rattle.machine.proofs.FreshLaws.{freshMachine}
 use Rattle.rewriter.specs.Rewrite.{split, reorder}
 use Rattle.rewriter.specs.Calls.{splitOf, reorderOf}
-use Rattle.order.specs.Instance.{sheetA}
-use Rattle.order.specs.Slips.{slips, shows, keepSplit, stuck, counting, countSplit, copying, restless}
+use Rattle.order.specs.Order.{fed, toInputs, wideFeeds, roomy}
+use Rattle.order.specs.Instance.{sheetA, stale}
+use Rattle.order.specs.Slips.{Slip, slips, shows, keepSplit, stuck, counting, countSplit, copying, copyingReordered, dropping, restless}
+use Rattle.order.specs.Slips.{feedsIn, filledBy, FedStart, keepRow, countRow, copyRow, restlessRow}
+use Rattle.order.proofs.Held.{fresh-held}
+use Rattle.order.proofs.FeedLink.{fedAll, fresh-feeds}
+use Rattle.order.proofs.WorstLink.{given-few}
 
 pub slips-show : all shows slips ≡ true
 unfolding stepNames stepVariable unusedZ fieldPlace stepPlaces blank tidyAs memoryNumber vacant four five six seven judgeBy whole
     headGood checkFrom ending checkOf part withPart fields firstOf encodeItems queuePart storeOf itemsOf queuesOf quietQueue
     quietFrom does stepped effect waits cursorGood commit fireFrom fireFirst runFrom readySet good runOf readyOf
 slips-show = refl
+
+-- the rows but the one with a full output start where feeds lead
+fed-start : (t : Sheet) (x : Slip) → checkOf t ≡ accepted → toInputs t (feedsIn 0 (x .before)) ≡ true →
+    wideFeeds (feedsIn 0 (x .before)) ≡ true → roomy t (feedsIn 0 (x .before)) ≡ true →
+    fedAll freshMachine (feedsIn 0 (x .before)) ≡ Rattle.order.specs.Slips.held (x .before) →
+    filledBy t x ≡ Rattle.order.proofs.Held.held (Rattle.order.specs.Slips.held (x .before))
+unfolding freshOf
+fed-start t x h i w r e =
+    ap (λ (c : Call). fed t c (feedsIn 0 (x .before))) (fresh-held stale (replicate STORE (pos 7)) refl)
+    ∙ fresh-feeds t h (feedsIn 0 (x .before)) i w (given-few t h (feedsIn 0 (x .before)) i r) .left
+    ∙ ap Rattle.order.proofs.Held.held e
+
+pub rows-are-fed : FedStart keepRow × FedStart countRow × FedStart copyRow × FedStart restlessRow
+unfolding stepNames stepVariable unusedZ fieldPlace stepPlaces blank tidyAs memoryNumber vacant four five six seven judgeBy whole
+    headGood checkFrom ending checkOf feedGood worstOf
+rows-are-fed = (
+  (fed-start sheetA keepRow refl refl refl refl refl, fed-start keepSplit keepRow refl refl refl refl refl),
+  (fed-start counting countRow refl refl refl refl refl, fed-start countSplit countRow refl refl refl refl refl),
+  (fed-start copying copyRow refl refl refl refl refl, fed-start copyingReordered copyRow refl refl refl refl refl),
+  (fed-start restless restlessRow refl refl refl refl refl, fed-start restless restlessRow refl refl refl refl refl),
+)
+
+-- the line that drops is on an accepted, calm sheet
+pub dropping-calm : (checkOf dropping ≡ accepted) × (isCalm (viewSheet dropping) ≡ true)
+unfolding stepNames stepVariable unusedZ fieldPlace stepPlaces blank tidyAs memoryNumber vacant four five six seven judgeBy whole
+    headGood checkFrom ending checkOf
+dropping-calm = (refl, refl)
 
 -- the rewriter refuses all three rewritings
 pub rewritings-refused :

@@ -1,16 +1,14 @@
 -- A state that refusal 8 lets pass is a good machine's numbers; what a run of it answers and leaves is what the machine does.
 -- Assumes nothing.
-use mathlib.Core.Path.{_≡_, refl, sym, ap, _∙_}
-use mathlib.Core.Bool.{Bool, true, false, cond}
+use mathlib.Core.Path.{_≡_, ap, _∙_}
 use mathlib.Core.List.{List}
-use mathlib.Core.Option.{some, none}
 use Prim.Native.Nat.{ℕ}
 use lib.IntN.{ℤ}
-use Rattle.lists.proofs.Build.{never}
 use Rattle.sheet.specs.declared.Sheet.{Sheet}
-use Rattle.sheet.specs.Answer.{Paper, accepted, refused, isAccepted}
+use Rattle.sheet.specs.Answer.{accepted}
 use Rattle.sheet.specs.Sheet.{viewSheet}
 use Rattle.sheet.specs.Check.{checkOf}
+use Rattle.sheet.proofs.AnswerLaws.{both-stand}
 use Rattle.machine.specs.declared.State.{State}
 use Rattle.machine.specs.Machine.{runM}
 use Rattle.machine.specs.Ready.{readySet}
@@ -21,14 +19,6 @@ use Rattle.machine.proofs.Sound.{Sound, sound-of-accepted}
 use Rattle.machine.proofs.Keeps.{run-keeps}
 use Rattle.order.specs.Firings.{GoodStart, readyAfter}
 use Rattle.order.proofs.Held.{ready-held}
-
-refused-apart : {A : Type 0} (p : Paper) → isAccepted p ≡ false → p ≡ accepted → A
-refused-apart p f h = let z : _≡_ {A = Bool} false true = sym f ∙ ap isAccepted h in never z
-
-both-stand : (p : Paper) (b : Bool) → cond (isAccepted p) (cond b accepted (refused 8)) p ≡ accepted → (p ≡ accepted) × (b ≡ true)
-both-stand none true h = (refl, refl)
-both-stand none false h = refused-apart (refused 8) refl h
-both-stand (some x) b h = refused-apart (some x) refl h
 
 module _ (t : Sheet) (st : State) (s : List ℤ) (start : GoodStart t st s) where
   pub start-sheet : checkOf t ≡ accepted

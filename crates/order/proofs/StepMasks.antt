@@ -1,18 +1,19 @@
 -- What the table's masks say of translated steps: no variable touched, an item always kept, and step lists that commute.
 -- Assumes nothing.
 use mathlib.Core.Path.{_≡_, refl, sym, _∙_}
-use mathlib.Core.Bool.{Bool, true, false, not, _&&_, _||_}
+use mathlib.Core.Bool.{true, false, not, _&&_, _||_}
 use mathlib.Core.List.{List, [], _∷_, _++_, map}
 use Prim.Native.Nat.{ℕ}
 use lib.Dec.{eqb}
 use borrow.Author.Tests.{not-true}
 use Rattle.lists.specs.Lists.{all, member}
 use Rattle.lists.proofs.Build.{never}
-use Rattle.lists.proofs.Tests.{both, both-of, neither, all-implies, all-member, member-append}
+use Rattle.lists.proofs.Tests.{both, both-of, neither, all-implies, all-member, member-append, or-left, or-right}
 use Rattle.step.specs.Step.{rowOf, knownFunc, stepPlaces}
 use Rattle.step.specs.declared.Func.{Func}
 use Rattle.step.specs.declared.Func.the-variants.{None, Keep, Add, Copy, Count, Stamp}
 use Rattle.step.specs.declared.Step.{Step}
+use Rattle.format.proofs.Sizes.{knownSteps}
 use Rattle.rewriter.specs.Rewrite.{touchesNone, writesSome, masked, fieldsRead, fieldsWritten, leaves}
 use Rattle.theory.proofs.Equations.{pure1, pure, total1, total, Free, Frees, Freed}
 use Rattle.order.proofs.Model.{stepBy, stepAs}
@@ -77,13 +78,6 @@ writes-by Stamp s k h = or-none (eqb k (s .p))
 abbrev Off : List ℕ → List ℕ → List ℕ → Type 0
 Off ws rs vs = (f : ℕ) → member f ws ≡ true → (member f rs ≡ false) × (member f vs ≡ false)
 
-or-left : (a b : Bool) → a ≡ true → (a || b) ≡ true
-or-left a b h = rw h
-
-or-right : (a b : Bool) → b ≡ true → (a || b) ≡ true
-or-right true b h = refl
-or-right false b h = h
-
 off-front : (ws us rs vs : List ℕ) → Off (ws ++ us) rs vs → Off ws rs vs
 off-front ws us rs vs h f m = h f (member-append f ws us ∙ or-left (member f ws) (member f us) m)
 
@@ -104,9 +98,6 @@ leaves-off : (ss ts : List Step) → leaves ss ts ≡ true → Off (fieldsWritte
 leaves-off ss ts h f m =
     neither (member f (fieldsRead ts)) (member f (fieldsWritten ts))
     (not-true _ (all-member (λ (k : ℕ). not (member k (fieldsRead ts) || member k (fieldsWritten ts))) (fieldsWritten ss) h f m))
-
-abbrev knownSteps : List Step → Bool
-knownSteps ss = all (λ (t : Step). knownFunc (t .func)) ss
 
 free-steps : (s t : Step) → knownFunc (s .func) ≡ true → knownFunc (t .func) ≡ true →
     Off (writtenBy (s .func) s) (readBy (t .func) t) (writtenBy (t .func) t) → Free (stepAs s) (stepAs t)

@@ -14,8 +14,9 @@ use borrow.Author.Tests.{ltb-true, lt-ltb, eqb-true, eq-eqb}
 use Rattle.lists.specs.Lists.{member}
 use Rattle.lists.proofs.Build.{never}
 use Rattle.lists.proofs.Tests.{both, or-cases}
+use Rattle.lists.proofs.Places.{getD-any}
+use Rattle.lists.proofs.Cut.{cut-two}
 use Rattle.operator.specs.Op.{Op, line, latest, double, deal, gather, Abstract, reads, defines}
-use Rattle.operator.proofs.Held.{getD-any}
 use Rattle.format.specs.Head.{OPERATORS}
 use Rattle.machine.proofs.ReaderLaws.{isRead, reader-found, reader-reads}
 use Rattle.rewriter.specs.Rewrite.{isLine, inOf, outOf, stepsOf, at, nextOf, toLine}
@@ -23,7 +24,6 @@ use Rattle.theory.proofs.Equations.{Kind}
 use Rattle.theory.proofs.Denote.{takesFrom}
 use Rattle.theory.proofs.Sheets.{gives, blank}
 use Rattle.theory.proofs.Accept.{accepted}
-use Rattle.theory.proofs.Cut.{cut-two}
 use Rattle.order.proofs.Model.{kindAs, kindsAs}
 use Rattle.order.proofs.KindLaws.{gives-member, takes-member}
 use Rattle.order.proofs.GoodSheets.{GoodSheet}

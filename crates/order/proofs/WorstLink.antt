@@ -12,9 +12,9 @@ use lib.Seq.{getD-set-same, getD-set-other}
 use borrow.Author.Tests.{ltb-true, leb-true, eqb-true, eqb-false}
 use Rattle.lists.specs.Lists.{all, sum}
 use Rattle.lists.proofs.Build.{order, build-length, build-getD}
-use Rattle.lists.proofs.Tests.{both, all-getD}
+use Rattle.lists.proofs.Tests.{both, all-getD, all-of-each}
+use Rattle.lists.proofs.Members.{all-below}
 use Rattle.operator.specs.Op.{Op, line, latest, double, deal, gather, defines}
-use Rattle.judge.proofs.JudgedLaws.{all-below}
 use Rattle.store.specs.Store.{QUEUES}
 use Rattle.sheet.specs.declared.Sheet.{Sheet}
 use Rattle.sheet.specs.Answer.{accepted, isAccepted}
@@ -23,7 +23,6 @@ use Rattle.sheet.specs.Check.{checkOf}
 use Rattle.counts.specs.Worst.{ROOM, feedGood, dealt, worstOp, worstFrom}
 use Rattle.counts.specs.Answers.{Counting, worstOf}
 use Rattle.counts.proofs.WorstLaws.{worst-overfed, worst-counted, fed-most, worst-from-length}
-use Rattle.machine.proofs.Good.{all-of-each}
 use Rattle.machine.proofs.Sound.{sound-of-accepted}
 use Rattle.theory.proofs.Deal.{oneOf}
 use Rattle.theory.proofs.Equations.{Kind}

@@ -1,5 +1,5 @@
 -- Demand 3 in the product's own terms: what is assumed of the two sheets, the feeds and the lists of firings, and what follows.
-use Prim.Native.Nat.{ℕ, _<_}
+use Prim.Native.Nat.{ℕ}
 use mathlib.Core.Path.{_≡_}
 use mathlib.Core.Bool.{true}
 use mathlib.Core.List.{List}
@@ -7,7 +7,6 @@ use lib.ListN.{take}
 use lib.IntN.{ℤ}
 use Rattle.sheet.specs.declared.Sheet.{Sheet}
 use Rattle.sheet.specs.Answer.{accepted}
-use Rattle.store.specs.declared.Item.{Item}
 use Rattle.machine.specs.declared.State.{State}
 use Rattle.machine.specs.Calls.{Call, freshOf, runOf, readyOf}
 use Rattle.order.specs.Order.{calmSheet, Made, Feed, fed, Taken, given, toInputs, wideFeeds, roomy, outputs}
@@ -45,10 +44,12 @@ SameFeeds x y = (q : ℕ) → given (x .feeds) q ≡ given (y .feeds) q
 abbrev pub variablesOf : Sheet → Call → List ℤ
 variablesOf t c = take (t .variables) (c .state .vars)
 
--- what follows: every feed was accepted, the ready set was asked of a good state, and outputs and variables are the same
+-- what follows: every feed, both runs and both ready sets were accepted, and outputs and variables are the same
 pub record Agreed (x y : Side) : Type 0 where
   pub fed-first : Taken (x .sheet) (begun x) (x .feeds)
   pub fed-second : Taken (y .sheet) (begun y) (y .feeds)
+  pub ran-first : ended x .answer ≡ accepted
+  pub ran-second : ended y .answer ≡ accepted
   pub at-rest-first : readyOf (x .sheet) (ended x .state) (ended x .store) .answer ≡ accepted
   pub at-rest-second : readyOf (y .sheet) (ended y .state) (ended y .store) .answer ≡ accepted
   pub items : outputs (y .sheet) (ended y) ≡ outputs (x .sheet) (ended x)

@@ -1,13 +1,11 @@
 -- What demand 3 speaks of: chains of rewritings, feeds after a fresh start, and what a run leaves in the outputs.
 use Prim.Native.Nat.{ℕ, suc}
 use mathlib.Core.Path.{_≡_}
-use mathlib.Core.Bool.{Bool, true, cond, _&&_}
+use mathlib.Core.Bool.{Bool, cond, _&&_}
 use mathlib.Core.List.{List, [], _∷_}
 use lib.Dec.{eqb, ltb, leb}
-use lib.ListN.{length, getD, replicate}
-use lib.IntN.{ℤ, pos}
+use lib.ListN.{length}
 use Rattle.lists.specs.Lists.{all, build}
-use Rattle.operator.specs.Op.{Abstract}
 use Rattle.sheet.specs.declared.Sheet.{Sheet}
 use Rattle.sheet.specs.Answer.{accepted, isAccepted}
 use Rattle.sheet.specs.Sheet.{viewSheet}
@@ -17,10 +15,9 @@ use Rattle.counts.specs.Worst.{ROOM}
 use Rattle.counts.specs.Answers.{worstOf}
 use Rattle.store.specs.Store.{QUEUES, FIELDS}
 use Rattle.store.specs.declared.Item.{Item}
-use Rattle.machine.specs.declared.State.{State}
-use Rattle.machine.specs.Machine.{Machine, isOutput}
+use Rattle.machine.specs.Machine.{isOutput}
 use Rattle.machine.specs.Numbers.{decode}
-use Rattle.machine.specs.Calls.{Call, freshOf, feedOf, runOf, readyOf, freshState}
+use Rattle.machine.specs.Calls.{Call, feedOf}
 use Rattle.rewriter.specs.Calls.{fuseOf, splitOf, reorderOf}
 
 -- an accepted, calm sheet
@@ -48,7 +45,8 @@ fed t c (x ∷ xs) = fed t (feedOf t (c .state) (c .store) (x .queue) (x .item))
 abbrev pub Taken : Sheet → Call → List Feed → Type 0
 Taken t c [] = Unit
 Taken t c (x ∷ xs) =
-    (feedOf t (c .state) (c .store) (x .queue) (x .item) .answer ≡ accepted) × Taken t (feedOf t (c .state) (c .store) (x .queue) (x .item)) xs
+    (feedOf t (c .state) (c .store) (x .queue) (x .item) .answer ≡ accepted)
+    × Taken t (feedOf t (c .state) (c .store) (x .queue) (x .item)) xs
 
 -- the items that the feeds give to a queue, in order, and how many: the numbers that the worst counts are asked with
 abbrev pub given : List Feed → ℕ → List Item

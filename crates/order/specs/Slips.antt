@@ -1,7 +1,8 @@
 -- Document 01's four slips and a sheet that is not calm, each as a row: two runs from the same items, and what each of them ends with.
-use Prim.Native.Nat.{ℕ}
+use Prim.Native.Nat.{ℕ, suc}
+use mathlib.Core.Path.{_≡_}
 use mathlib.Core.Bool.{Bool, true, false, not, _&&_}
-use mathlib.Core.List.{List, [], _∷_}
+use mathlib.Core.List.{List, [], _∷_, _++_, map}
 use lib.Dec.{eqb}
 use lib.ListN.{replicate}
 use lib.IntN.{ℤ, pos, negsuc}
@@ -11,15 +12,15 @@ use Rattle.step.specs.declared.Step.{Step}
 use Rattle.operator.specs.Op.{line, latest, deal, gather}
 use Rattle.format.specs.Head.{VARIABLES}
 use Rattle.sheet.specs.declared.Sheet.{Sheet}
-use Rattle.sheet.specs.Answer.{isAccepted}
+use Rattle.sheet.specs.Answer.{accepted, isAccepted}
 use Rattle.store.specs.declared.Item.{Item}
 use Rattle.store.specs.Store.{QUEUES}
 use Rattle.machine.specs.Machine.{Machine}
 use Rattle.machine.specs.Numbers.{stateOf, storeIn}
 use Rattle.machine.specs.Calls.{Call, ReadyCall, runOf, readyOf}
-use Rattle.order.specs.Order.{outputs}
-use Rattle.order.specs.Demand.{variablesOf}
-use Rattle.order.specs.Instance.{sheetOf, item, keepTwo, lessFive, sheetA, itemsA}
+use Rattle.order.specs.Order.{Feed, outputs}
+use Rattle.order.specs.Demand.{filled, variablesOf}
+use Rattle.order.specs.Instance.{sheetOf, item, side, keepTwo, lessFive, sheetA, itemsA}
 
 -- what a run ends with: the ready set, the items of the outputs, and the variables that both sheets have
 pub record End : Type 0 where
@@ -144,9 +145,9 @@ restless = sheetOf 2 3 1 (latest 0 0 1 ∷ line 1 2 (stampLast ∷ []) ∷ [])
 
 -- ---- the table
 
-abbrev pub slips : List Slip
-slips =
-    -- a Keep is split: the gather waits for the item that was dropped, and one that passed waits behind it for good
+-- a Keep is split: the gather waits for the item that was dropped, and one that passed waits behind it for good
+abbrev pub keepRow : Slip
+keepRow =
     record {
       before = itemsA ∷ [];
       first = sheetA;
@@ -156,8 +157,11 @@ slips =
       others = waiting;
       otherEnd = rests ((item (pos 2) (pos 45) (pos 0) (pos 0) ∷ []) ∷ []) [];
     }
-    -- a Count is split: the copies share a variable, and the second item may be counted first
-    ∷ record {
+
+-- a Count is split: the copies share a variable, and the second item may be counted first
+abbrev pub countRow : Slip
+countRow =
+    record {
       before = (of (pos 8) ∷ of (pos 9) ∷ []) ∷ [];
       first = counting;
       firings = 0 ∷ 0 ∷ [];
@@ -166,8 +170,11 @@ slips =
       others = 0 ∷ 0 ∷ 3 ∷ 2 ∷ 4 ∷ 5 ∷ [];
       otherEnd = rests ((item (pos 8) (pos 0) (pos 0) (pos 2) ∷ item (pos 9) (pos 0) (pos 0) (pos 1) ∷ []) ∷ []) (pos 2 ∷ []);
     }
-    -- fields are tested one way only: reordered, the Copy takes the field after the Add
-    ∷ record {
+
+-- fields are tested one way only: reordered, the Copy takes the field after the Add
+abbrev pub copyRow : Slip
+copyRow =
+    record {
       before = (of (pos 7) ∷ []) ∷ [];
       first = copying;
       firings = 0 ∷ 1 ∷ [];
@@ -176,8 +183,12 @@ slips =
       others = 0 ∷ 1 ∷ [];
       otherEnd = rests ((item (pos 8) (pos 8) (pos 0) (pos 0) ∷ []) ∷ []) [];
     }
-    -- the output is full, but the line drops the next item: queue 0 is ready, and firing it moves the variable on
-    ∷ record {
+
+-- the output is full, but the line drops the next item: queue 0 is ready, and firing it moves the variable on;
+-- no feeds with room for all lead here, so the row starts from a state that was good already
+abbrev pub fullRow : Slip
+fullRow =
+    record {
       before = (of (pos 3) ∷ []) ∷ replicate 64 (of (pos 2)) ∷ [];
       first = dropping;
       firings = [];
@@ -186,8 +197,11 @@ slips =
       others = 0 ∷ [];
       otherEnd = rests (replicate 64 (of (pos 2)) ∷ []) (pos 1 ∷ []);
     }
-    -- a sheet that is not calm: the stamp is the variable before or after Latest
-    ∷ record {
+
+-- a sheet that is not calm: the stamp is the variable before or after Latest
+abbrev pub restlessRow : Slip
+restlessRow =
+    record {
       before = (item (pos 0) (pos 5) (pos 0) (pos 0) ∷ []) ∷ (of (pos 1) ∷ []) ∷ [];
       first = restless;
       firings = 0 ∷ 1 ∷ [];
@@ -196,4 +210,21 @@ slips =
       others = 1 ∷ 0 ∷ [];
       otherEnd = rests ((of (pos 1) ∷ []) ∷ []) (pos 5 ∷ []);
     }
-    ∷ []
+
+abbrev pub slips : List Slip
+slips = keepRow ∷ countRow ∷ copyRow ∷ fullRow ∷ restlessRow ∷ []
+
+-- ---- where a row starts
+
+abbrev pub feedsIn : ℕ → List (List Item) → List Feed
+feedsIn q [] = []
+feedsIn q (xs ∷ rest) = map (λ (x : Item). record { queue = q; item = x }) xs ++ feedsIn (suc q) rest
+
+abbrev pub filledBy : Sheet → Slip → Call
+filledBy t x = filled (side t (feedsIn 0 (x .before)) [])
+
+-- on both sheets a fresh start and accepted feeds leave what the queues hold
+abbrev pub FedStart : Slip → Type 0
+FedStart x =
+    (filledBy (x .first) x ≡ record { answer = accepted; state = stateOf (held (x .before)); store = storeIn (held (x .before)) })
+    × (filledBy (x .second) x ≡ record { answer = accepted; state = stateOf (held (x .before)); store = storeIn (held (x .before)) })

@@ -16,7 +16,7 @@ ghost use Rattle.store.specs.Store.{QUEUES};
 ghost use Rattle.machine.specs.Working.{readersOf, readersWith};
 
 // One past the last operator, where no operator reads a queue.
-const NONE: u8 = 16;
+const NONE: u8 = decode::OPERATORS;
 
 // The readers with operator i as the one of each of its in queues.
 fn with_reader(readers: [u8; machine::QUEUES], o: Operator, i: u8) -> [u8; machine::QUEUES]

@@ -18,10 +18,11 @@ use Rattle.sheet.specs.declared.Sheet.{Sheet}
 use Rattle.sheet.specs.Answer.{accepted}
 use Rattle.sheet.specs.Sheet.{opAt, viewSheet, memorySheet, HeldSheet}
 use Rattle.sheet.specs.Check.{checkOf}
-use Rattle.machine.proofs.AbleOf.{ranges-of-accepted, ops-many, ops-at}
+use Rattle.sheet.proofs.Accepted.{ranges-of-accepted}
+use Rattle.sheet.proofs.Placed.{ops-many, ops-at, places}
+use Rattle.sheet.proofs.InMemory.{sheet-eq, operators-back}
 use Rattle.rewriter.specs.Rewrite.{refuse, rewritten, isLine, inOf, outOf, stepsOf, at, nextOf, toLine, lowered, fused, fuse}
 use Rattle.rewriter.specs.Working.{without, loweredIn}
-use Rattle.rewriter.proofs.InMemory.{places, sheet-eq, operators-back}
 use Rattle.rewriter.proofs.Lines.{line-out, line-length}
 use Rattle.rewriter.proofs.Pairs.{Pair}
 use Rattle.rewriter.proofs.Falling.{all-lowered, without-length, map-without}

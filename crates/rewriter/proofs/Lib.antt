@@ -1,12 +1,10 @@
 pub mod Answers
-pub mod InMemory
 pub mod Fields
 pub mod Lines
 pub mod Pairs
 pub mod Reordering
 pub mod Falling
 pub mod Fusing
-pub mod Insert
 pub mod Parting
 pub mod Splitting
 pub mod OneOutcome

@@ -19,12 +19,14 @@ use Rattle.sheet.specs.Answer.{accepted}
 use Rattle.sheet.specs.Sheet.{opAt, viewSheet, HeldSheet}
 use Rattle.sheet.specs.Check.{checkOf}
 use Rattle.sheet.proofs.Laws.{read-below}
+use Rattle.sheet.proofs.Accepted.{ranges-of-accepted}
+use Rattle.sheet.proofs.Placed.{ops-many, ops-at}
+use Rattle.sheet.proofs.InMemory.{operator-back}
 use Rattle.machine.specs.Working.{readerFrom, readersOf}
-use Rattle.machine.proofs.AbleOf.{ranges-of-accepted, able-of-accepted, ops-many, ops-at}
+use Rattle.machine.proofs.AbleOf.{able-of-accepted}
 use Rattle.machine.proofs.ReaderLaws.{isRead, reader-any, reader-found}
 use Rattle.rewriter.specs.Rewrite.{isLine, outOf, at, nextOf, toLine}
 use Rattle.rewriter.specs.Working.{pairOf, TwoLines}
-use Rattle.rewriter.proofs.InMemory.{operator-back}
 use Rattle.rewriter.proofs.Lines.{line-out}
 
 -- a reader that is found is one of the operators

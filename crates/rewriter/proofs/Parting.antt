@@ -13,24 +13,23 @@ use borrow.Author.Tests.{le-leb, lt-leb, lt-ltb, le-ltb}
 use Rattle.lists.specs.Lists.{build, pad}
 use Rattle.lists.proofs.Build.{order, upTo, build-length, build-ext, build-all, set-more}
 use Rattle.lists.proofs.Pad.{pad-length, pad-getD, pad-as-build}
+use Rattle.lists.proofs.Places.{getD-any}
+use Rattle.lists.proofs.Insert.{inserted, map-inserted, length-inserted, inserted-before, inserted-in, inserted-past, built-at, last-at}
 use Rattle.step.specs.declared.Step.{Step}
 use Rattle.operator.specs.Op.{Op, line, deal, gather}
 use Rattle.operator.specs.Memory.{PLACES, stepsIn, view, memory, noOperator, Held}
 use Rattle.operator.specs.declared.Kind.the-variants.{Line}
 use Rattle.operator.specs.declared.Operator.{Operator}
 use Rattle.operator.proofs.ViewLaws.{memory-view}
-use Rattle.operator.proofs.Held.{getD-any}
 use Rattle.format.specs.Head.{OPERATORS}
 use Rattle.sheet.specs.declared.Sheet.{Sheet}
 use Rattle.sheet.specs.Sheet.{missing, opAt, viewSheet, memorySheet, HeldSheet}
 use Rattle.sheet.proofs.Accepted.{accepted-facts}
-use Rattle.machine.proofs.AbleOf.{ops-many, ops-at}
+use Rattle.sheet.proofs.Placed.{ops-many, ops-at}
+use Rattle.sheet.proofs.InMemory.{sheet-eq, operators-back}
 use Rattle.rewriter.specs.Rewrite.{at, inOf, outOf, stepsOf, parted}
 use Rattle.rewriter.specs.Pieces.{pieces, LineIn, Splits}
-use Rattle.rewriter.proofs.InMemory.{sheet-eq, operators-back}
 use Rattle.rewriter.proofs.Lines.{line-view}
-use Rattle.rewriter.proofs.Insert.{inserted, map-inserted, length-inserted}
-use Rattle.rewriter.proofs.Insert.{inserted-before, inserted-in, inserted-past, built-at, last-at}
 
 -- the places of a line hold its queues and steps, and then none
 line-back : (o : Operator) → Held o → LineIn o →

@@ -2,14 +2,16 @@
 -- Assumes nothing.
 use mathlib.Core.Path.{_≡_, refl, sym, ap, ap₂, _∙_}
 use mathlib.Core.Bool.{Bool, true, false, cond, _&&_}
-use mathlib.Core.List.{List, [], _∷_, _++_, map}
-use Prim.Native.Nat.{ℕ, zero, suc, _<_, _≤_}
+use mathlib.Core.List.{List, _++_, map}
+use Prim.Native.Nat.{ℕ, _<_, _≤_}
 use native.Mathlib.Omega.{arith}
 use lib.Dec.{ltb}
 use lib.ListN.{length, set, length-set, length-map}
 use borrow.Author.Tests.{lt-ltb, le-ltb}
 use Rattle.lists.specs.Lists.{all, pad}
 use Rattle.lists.proofs.Tests.{all-append}
+use Rattle.lists.proofs.Places.{map-set}
+use Rattle.lists.proofs.Pad.{set-pad}
 use Rattle.step.specs.declared.Step.{Step}
 use Rattle.operator.specs.Op.{Op, line}
 use Rattle.operator.specs.Memory.{view, memory, noOperator, stepsIn}
@@ -19,11 +21,12 @@ use Rattle.sheet.specs.declared.Sheet.{Sheet}
 use Rattle.sheet.specs.Answer.{accepted}
 use Rattle.sheet.specs.Sheet.{opAt, viewSheet, memorySheet, HeldSheet}
 use Rattle.sheet.specs.Check.{checkOf}
-use Rattle.machine.proofs.AbleOf.{ranges-of-accepted, ops-many, ops-at}
+use Rattle.sheet.proofs.Accepted.{ranges-of-accepted}
+use Rattle.sheet.proofs.Placed.{ops-many, ops-at, places}
+use Rattle.sheet.proofs.InMemory.{sheet-eq, operators-back}
 use Rattle.rewriter.specs.Rewrite.{refuse, rewritten, isLine, inOf, outOf, stepsOf, at, nextOf, toLine}
 use Rattle.rewriter.specs.Rewrite.{touchesNone, leaves, exchanged, reorder}
 use Rattle.rewriter.specs.Working.{mayExchange}
-use Rattle.rewriter.proofs.InMemory.{places, sheet-eq, operators-back}
 use Rattle.rewriter.proofs.Lines.{line-steps}
 use Rattle.rewriter.proofs.Pairs.{Pair}
 
@@ -98,18 +101,6 @@ module _ (t : Sheet) (i : ℕ) where
       reorder-done e =
           reorder-by true true true within (pair .test) (tested true e)
           ∙ ap (λ (k : ℕ). rewritten (exchanged (viewSheet t) i k)) (sym (pair .next))
-
--- a store among the places is a store in the list
-map-set : {A B : Type 0} (f : A → B) (l : List A) (i : ℕ) (x : A) → map f (set l i x) ≡ set (map f l) i (f x)
-map-set f [] i x = refl
-map-set f (y ∷ l) zero x = refl
-map-set {B = B} f (y ∷ l) (suc i) x = ap (λ (r : List B). f y ∷ r) (map-set f l i x)
-
-set-pad : {A : Type 0} (n : ℕ) (d : A) (l : List A) (i : ℕ) (x : A) → i < length l → length l ≤ n → set (pad n d l) i x ≡ pad n d (set l i x)
-set-pad n d [] i x h b = absurd (omega arith)
-set-pad zero d (y ∷ l) i x h b = absurd (omega arith)
-set-pad (suc n) d (y ∷ l) zero x h b = refl
-set-pad {A} (suc n) d (y ∷ l) (suc i) x h b = ap (λ (r : List A). y ∷ r) (set-pad n d l i x (omega arith) (omega arith))
 
 pub set-places : (os : List Op) (i : ℕ) (x : Op) → i < length os → length os ≤ OPERATORS → set (places os) i (memory x) ≡ places (set os i x)
 set-places os i x h b =

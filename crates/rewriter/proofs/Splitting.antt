@@ -18,7 +18,7 @@ use Rattle.sheet.specs.Answer.{accepted}
 use Rattle.sheet.specs.Sheet.{opAt, viewSheet}
 use Rattle.sheet.specs.Check.{checkOf}
 use Rattle.sheet.proofs.Accepted.{accepted-facts}
-use Rattle.machine.proofs.AbleOf.{ops-many, ops-at}
+use Rattle.sheet.proofs.Placed.{ops-many, ops-at}
 use Rattle.rewriter.specs.Rewrite.{Rewritten, refuse, rewritten, isLine, stepsOf, at, parted, touchesNone, writesSome, split}
 use Rattle.rewriter.specs.Pieces.{LineIn, Splits}
 use Rattle.rewriter.proofs.Lines.{line-view}

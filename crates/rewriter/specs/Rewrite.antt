@@ -144,7 +144,9 @@ exchanged a i j =
       inputs = a .inputs;
       queues = a .queues;
       variables = a .variables;
-      ops = set (set (a .ops) i (line (inOf (at a i)) (outOf (at a i)) (stepsOf (at a j)))) j (line (inOf (at a j)) (outOf (at a j)) (stepsOf (at a i)));
+      ops =
+          set (set (a .ops) i (line (inOf (at a i)) (outOf (at a i)) (stepsOf (at a j)))) j
+          (line (inOf (at a j)) (outOf (at a j)) (stepsOf (at a i)));
     }
 
 unfoldable pub reorder : Abstract → ℕ → Rewritten

@@ -20,6 +20,10 @@ ghost use Rattle.rewriter.specs.Rewrite.{parted, touchesNone, writesSome
 ghost use Rattle.rewriter.specs.Calls.{Rewrites, answering};
 ghost use Rattle.rewriter.specs.Pieces.{pieces, LineIn, Room, Splits};
 
+const FEWEST_WAYS: u8 = 2;
+
+const MOST_WAYS: u8 = 4;
+
 // The n numbers from q on, and then 0.
 fn numbers_from(q: u8, n: usize) -> [u8; operator::PLACES]
     requires { ⌜ (n ≤ PLACES) × (q + n ≤ 255) ⌝ }
@@ -183,10 +187,10 @@ fn in_range(count: u8, a: u8, k: u8) -> bool
     if count <= a {
         return false;
     }
-    if k < 2 {
+    if k < FEWEST_WAYS {
         return false;
     }
-    k <= 4
+    k <= MOST_WAYS
 }
 
 // The head of the new sheet stays in its ranges.
@@ -194,13 +198,13 @@ fn has_room(queues: u8, variables: u8, count: u8, k: u8) -> bool
     ensures { λ r. ⌜ r ≡ (leb (queues + 2 * k) QUEUES && (leb (variables + 2) VARIABLES && leb (count + k + 1) OPERATORS)) ⌝ }
 {
     let ways = k as usize;
-    if 24 < queues as usize + 2 * ways {
+    if machine::QUEUES < queues as usize + 2 * ways {
         return false;
     }
-    if 16 < variables as usize + 2 {
+    if machine::VARIABLES < variables as usize + 2 {
         return false;
     }
-    count as usize + ways + 1 <= 16
+    count as usize + ways + 1 <= sheet::OPERATORS
 }
 
 // The split of an accepted sheet, or refusal 14 to 17.

@@ -1,20 +1,18 @@
 -- How each call goes by the test of sheet, state and store: where it accepts, what the call's inner function answers; where it refuses, that refusal, and all as it was.
 -- Assumes nothing.
-use mathlib.Core.Path.{_≡_, refl, sym, ap, _∙_, subst}
-use mathlib.Core.Bool.{Bool, true, false, cond}
+use mathlib.Core.Path.{_≡_, sym, ap, _∙_, subst}
+use mathlib.Core.Bool.{false}
 use mathlib.Core.List.{List}
-use mathlib.Core.Option.{some, none}
 use Prim.Native.Nat.{ℕ}
-use native.Mathlib.Omega.{arith}
 use lib.Count.{ones, trailingZeros}
 use lib.IntN.{ℤ}
 use Rattle.sheet.specs.declared.Answer.{Answer}
 use Rattle.sheet.specs.declared.Answer.the-variants.{Done}
 use Rattle.sheet.specs.declared.Sheet.{Sheet}
-use Rattle.sheet.specs.Answer.{Paper, accepted, refused, isAccepted, paper}
+use Rattle.sheet.specs.Answer.{accepted, isAccepted, paper}
 use Rattle.sheet.specs.Sheet.{viewSheet}
 use Rattle.sheet.specs.Check.{checkOf}
-use Rattle.sheet.proofs.AnswerLaws.{none-apart}
+use Rattle.sheet.proofs.AnswerLaws.{both-stand}
 use Rattle.store.specs.declared.Item.{Item}
 use Rattle.machine.specs.declared.ReadySet.{ReadySet}
 use Rattle.machine.specs.declared.State.{State}
@@ -25,12 +23,6 @@ use Rattle.machine.specs.Numbers.{decode, good}
 use Rattle.machine.specs.Calls.{Call, TakeCall, RunCall, ReadyCall, noItem, refusing, standing, saved, savedTake, savedRun, readyCall}
 use Rattle.machine.specs.Calls.{fireOf, feedOf, takeOf, runOf, readyOf}
 use Rattle.machine.specs.Working.{Stands, Answers, TakeAnswers, RunAnswers, ReadyAnswers}
-
--- the test accepts only where both of its parts do
-both-stand : (p : Paper) (b : Bool) → cond (isAccepted p) (cond b accepted (refused 8)) p ≡ accepted → (p ≡ accepted) × (b ≡ true)
-both-stand none true e = (refl, refl)
-both-stand none false e = absurd (none-apart 8 (sym e))
-both-stand (some x) b e = let z : _≡_ {A = ℕ} 0 1 = cc in absurd (omega arith)
 
 -- the refusing call, answered
 refused-answers : (c : Call) (x : Answer) (st : State) (s : List ℤ) → c ≡ refusing (paper x) st s → Answers c x st s

@@ -66,7 +66,10 @@ pub fn take(t: Sheet, state: State, store: &mut [i32], q: u8) -> Taken
     let a = standing::stands(t, state, &*store);
     match a {
         Answer::Done => calls::take_known(t, q, state, &mut *store),
-        Answer::RefusedAt { number, spot } => calls::no_take(Answer::RefusedAt { number, spot }, state),
+        Answer::RefusedAt { number, spot } => calls::no_take(
+            Answer::RefusedAt { number, spot },
+            state,
+        ),
         Answer::Refused { number } => calls::no_take(Answer::Refused { number }, state),
     }
 }

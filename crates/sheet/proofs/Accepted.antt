@@ -14,6 +14,7 @@ use Rattle.lists.proofs.Tests.{all-build, all-build-of}
 use Rattle.operator.specs.Memory.{view, memoryNumber, vacant}
 use Rattle.judge.specs.Judge.{known, judge, whole}
 use Rattle.format.specs.Head.{OPERATORS, headGood}
+use Rattle.format.proofs.Heads.{HeadRanges, ranges-of-good}
 use Rattle.sheet.specs.declared.Sheet.{Sheet}
 use Rattle.sheet.specs.Answer.{accepted, refusedAt, refused}
 use Rattle.sheet.specs.Sheet.{opAt, viewTo, viewSheet}
@@ -139,3 +140,7 @@ refusal-has-record t n h =
     ⊎-elim (λ (f : Accepted t). let z : _≡_ {A = ℕ} 0 1 = cc (facts-accepted t f) in omega arith)
     (λ (r : Refuses t). record-apart (r .number) n (r .spot) (sym (r .refuses) ∙ h))
     (check-answers t)
+
+-- an accepted sheet's head lies in its ranges
+pub ranges-of-accepted : (t : Sheet) → checkOf t ≡ accepted → HeadRanges (t .inputs) (t .queues) (t .variables) (t .count)
+ranges-of-accepted t h = ranges-of-good (t .inputs) (t .queues) (t .variables) (t .count) (accepted-facts t h .head)

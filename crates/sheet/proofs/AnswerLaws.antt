@@ -1,18 +1,21 @@
--- The program's answers and the paper's words: no two answers say the same.
+-- The program's answers and the paper's words: no two answers say the same, and what an accepting one says.
 -- Assumes nothing.
 use mathlib.Core.Path.{_≡_, refl, ap, sym}
+use mathlib.Core.Bool.{Bool, true, false, cond}
 use mathlib.Core.Option.{Option, some, none}
 use Prim.Native.Nat.{ℕ}
 use native.Mathlib.Omega.{arith}
+use Rattle.lists.proofs.Build.{never}
 use Rattle.sheet.specs.declared.Answer.{Answer}
 use Rattle.sheet.specs.declared.Answer.the-variants.{Done, RefusedAt, Refused}
-use Rattle.sheet.specs.Answer.{Paper, accepted, refusedAt, refused, paper}
+use Rattle.sheet.specs.Answer.{Paper, accepted, refusedAt, refused, isAccepted, paper}
 
 abbrev paperNumber : Paper → ℕ
 paperNumber none = 0
 paperNumber (some x) = x .0
 
-abbrev paperRecord : Paper → Option ℕ
+-- the record that a refusal names
+abbrev pub paperRecord : Paper → Option ℕ
 paperRecord none = none
 paperRecord (some x) = x .1
 
@@ -28,6 +31,17 @@ record-apart m n r e = let d : some r ≡ none = ap paperRecord e in let z : _�
 
 pub none-apart : (n : ℕ) → accepted ≡ refused n → ⊥
 none-apart n e = let z : _≡_ {A = ℕ} 0 1 = cc in omega arith
+
+-- an accepting answer is the one
+pub accepted-of : (p : Paper) → isAccepted p ≡ true → p ≡ accepted
+accepted-of none h = refl
+accepted-of (some x) h = never h
+
+-- the test of sheet and numbers accepts only where both of its parts do
+pub both-stand : (p : Paper) (b : Bool) → cond (isAccepted p) (cond b accepted (refused 8)) p ≡ accepted → (p ≡ accepted) × (b ≡ true)
+both-stand none true e = (refl, refl)
+both-stand none false e = absurd (none-apart 8 (sym e))
+both-stand (some x) b e = let z : _≡_ {A = ℕ} 0 1 = cc in absurd (omega arith)
 
 pub paper-injective : (a b : Answer) → paper a ≡ paper b → a ≡ b
 paper-injective Done Done e = refl

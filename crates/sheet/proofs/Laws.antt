@@ -11,8 +11,10 @@ use lib.Dec.{ltb}
 use borrow.Author.Tests.{ltb-true}
 use Rattle.lists.specs.Lists.{build, any, member, chain, times}
 use Rattle.lists.proofs.Build.{order, never}
-use Rattle.lists.proofs.Tests.{or-cases, all-build, member-append, member-chain}
-use Rattle.lists.proofs.Times.{member-times, times-member}
+use Rattle.lists.proofs.Tests.{or-cases, all-build, member-append, member-chain, any-build, any-build-none}
+use Rattle.lists.proofs.Times.{member-times, times-member, once-more, times-below}
+use Rattle.lists.proofs.Chains.{chain-snoc}
+use Rattle.lists.proofs.Members.{member-below}
 use Rattle.operator.specs.Op.{Op, Abstract, reads, defines, names, cursors}
 use Rattle.operator.specs.Memory.{view, tidy, vacant, noOperator, Held}
 use Rattle.operator.proofs.ViewLaws.{tidy-of-number, vacant-is}
@@ -27,7 +29,6 @@ use Rattle.sheet.specs.Check.{checkOf}
 use Rattle.sheet.specs.Facts.{definedBy, readBy}
 use Rattle.sheet.proofs.Accepted.{Accepted, accepted-facts}
 use Rattle.sheet.proofs.Passed.{four-reads, four-defines, five-parts, six-below, six-names, six-cursors}
-use Rattle.sheet.proofs.Once.{any-build, any-build-none, chain-snoc, member-below, times-below, once-more}
 
 -- what the judge knows is what stands in the lists
 known-defined : (a : Abstract) (q : ℕ) → known a .defined q ≡ member q (definedBy a)

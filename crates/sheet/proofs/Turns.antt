@@ -10,6 +10,7 @@ use lib.Dec.{eqb}
 use lib.ListN.{length}
 use borrow.Author.Tests.{eq-eqb, ne-eqb}
 use Rattle.lists.proofs.Build.{build-length, build-snoc, same-or}
+use Rattle.lists.proofs.Tests.{cond-le}
 use Rattle.operator.specs.Op.{Op, Abstract, with}
 use Rattle.operator.specs.Memory.{view, memoryNumber, isEmpty, tidy}
 use Rattle.operator.specs.declared.Operator.{Operator}
@@ -80,13 +81,9 @@ pub number-of-parts : (a : Abstract) (o : Operator) → memoryNumber o ≡ 0 →
 number-of-parts a o m j = ap (λ (b : Bool). cond b (judge a (view o)) (memoryNumber o)) (eq-eqb (memoryNumber o) 0 m) ∙ j
 
 -- no number is above 7
-either-most : (b : Bool) (m n k : ℕ) → m ≤ k → n ≤ k → cond b m n ≤ k
-either-most true m n k h l = h
-either-most false m n k h l = l
-
 memory-most : (o : Operator) → memoryNumber o ≤ 7
 unfolding memoryNumber
-memory-most o = either-most (isEmpty (o .kind)) 2 (cond (tidy o) 0 1) 7 (omega arith) (either-most (tidy o) 0 1 7 (omega arith) (omega arith))
+memory-most o = cond-le (isEmpty (o .kind)) 2 (cond (tidy o) 0 1) 7 (omega arith) (cond-le (tidy o) 0 1 7 (omega arith) (omega arith))
 
 judge-most : (a b c d : Bool) → cond a (cond b (cond c (cond d 0 7) 6) 5) 4 ≤ 7
 judge-most true true true true = omega arith
@@ -101,7 +98,7 @@ judged-most Q vs k o = judge-most (four Q k o) (five k o) (six vs k o) (seven o)
 
 pub number-most : (a : Abstract) (o : Operator) → numberIn a o ≤ 7
 number-most a o =
-    either-most (eqb (memoryNumber o) 0) (judge a (view o)) (memoryNumber o) 7 (judged-most (a .queues) (a .variables) (known a) (view o))
+    cond-le (eqb (memoryNumber o) 0) (judge a (view o)) (memoryNumber o) 7 (judged-most (a .queues) (a .variables) (known a) (view o))
     (memory-most o)
 
 -- what the check of the n operators from i on comes to: each is numbered 0, or one is refused

@@ -6,11 +6,11 @@ use Prim.Native.Nat.{ℕ, _<_}
 use lib.Dec.{eqb, lit<}
 use lib.ListN.{getD}
 use borrow.Author.Tests.{eqb-true}
+use Rattle.lists.proofs.Tables.{every-at}
 use Rattle.step.specs.Step.{codeOf, funcOf, rowOf, knownFunc}
 use Rattle.step.specs.declared.Func.{Func}
 use Rattle.step.specs.declared.Func.the-variants.{None, Keep, Add, Copy, Count, Stamp}
 use Rattle.step.specs.declared.Row.{Row}
-use Rattle.step.proofs.Table.{every-at}
 
 beq-eq : (a b : Bool) → Bool·beq a b ≡ true → a ≡ b
 beq-eq true true e = refl

@@ -3,31 +3,18 @@
 use mathlib.Core.Path.{_≡_, refl, sym, ap, ap₂, _∙_}
 use mathlib.Core.List.{List, [], _∷_, _++_, append-assoc, append-nil}
 use Prim.Native.Nat.{ℕ, zero, suc, _+_, _-_, _*_, _≤_, _<_}
-use native.Mathlib.Nat.{zero-add, suc-add}
 use native.Mathlib.Omega.{arith}
 use lib.ListN.{length, take, drop, replicate, length-append, length-drop, length-replicate, replicate-append-replicate}
 use lib.Seq.{take-at, drop-at, take-add, drop-append-add, length-take-le}
 use lib.IntN.{ℤ, pos}
 use Rattle.lists.specs.Lists.{pad}
-use Rattle.lists.proofs.Pad.{pad-length, pad-full, pad-replicate}
+use Rattle.lists.proofs.Pad.{pad-length, pad-full, pad-add, pad-front}
 use Rattle.store.specs.declared.Item.{Item}
 use Rattle.store.specs.Store.{FIELDS, ROOM, PART, fields, pushed, taken, firstOf}
 use Rattle.store.specs.Queues.{encodeItems, queuePart, itemsOf, Wide}
 
 abbrev zeros : ℕ → List ℤ
 zeros n = replicate n (pos 0)
-
--- ---- places filled up: the list and then the filler, and the list's front
-
-module _ {A : Type 0} where
-  pad-add : (k : ℕ) (d : A) (l : List A) → pad (length l + k) d l ≡ l ++ replicate k d
-  pad-add k d [] = rw zero-add (pad-replicate k d)
-  pad-add k d (x ∷ l) = rw suc-add (ap (λ (r : List A). x ∷ r) (pad-add k d l))
-
-  pad-front : (n : ℕ) (d : A) (l r : List A) → length l ≤ n → take (length l) (pad n d (l ++ r)) ≡ l
-  pad-front n d [] r h = refl
-  pad-front zero d (x ∷ l) r h = absurd (omega arith)
-  pad-front (suc n) d (x ∷ l) r h = ap (λ (s : List A). x ∷ s) (pad-front n d l r (omega arith))
 
 -- ---- lengths
 

@@ -8,18 +8,15 @@ use Prim.Native.Nat.{ℕ, zero, suc, _+_, _≤_, _<_}
 use native.Mathlib.Omega.{arith}
 use lib.ListN.{length, getD}
 use lib.Dec.{eqb, ltb}
-use borrow.Author.Tests.{ltb-true, ltb-false}
-use Rattle.theory.proofs.Trace.{eqb-same}
+use borrow.Author.Tests.{ltb-true, ltb-false, eq-eqb}
+use Rattle.lists.specs.Lists.{bit}
+use Rattle.lists.proofs.Bits.{bit-one}
 use Rattle.theory.proofs.Steps.{lineOp}
 use Rattle.theory.proofs.Deal.{oneOf, Once, dealOp, gatherOp}
 use Rattle.theory.proofs.Equations.{Kind, line, latest, double, deal, gather, Ways}
 use Rattle.theory.proofs.Denote.{denote, takesFrom, Good, latestOp, doubleOp}
 use Rattle.theory.proofs.Sheets.{Accepted, gives, holds, blank, find, find-none}
 use Rattle.theory.proofs.Rewrites.{All, all-at}
-
-abbrev pub bit : Bool → ℕ
-bit true = 1
-bit false = 0
 
 module _ {A : Type 0} (f : A → ℕ) where
   unfoldable pub tot : List A → ℕ
@@ -101,15 +98,6 @@ pub record Acc (I Q : ℕ) (ops : List Kind) : Type 0 where
   pub ways : All Ways ops
   pub ord : Ord ops
 
--- a test passed is a count of one or more, and the other way
-pub bit-one : (b : Bool) → b ≡ true → 1 ≤ bit b
-bit-one true h = omega arith
-bit-one false h = let z : _≡_ {A = ℕ} 0 1 = cc in absurd (omega arith)
-
-pub one-bit : (b : Bool) → 1 ≤ bit b → b ≡ true
-one-bit true h = refl
-one-bit false h = absurd (omega arith)
-
 pub occ-one : (q : ℕ) (l : List ℕ) → oneOf q l ≡ true → 1 ≤ occ q l
 unfolding tot
 occ-one q [] h = let z : _≡_ {A = ℕ} 0 1 = cc in absurd (omega arith)
@@ -166,8 +154,8 @@ not-gives (gather c o is) q h = rw h
 
 once-of : (l : List ℕ) → ((q : ℕ) → occ q l ≤ 1) → Once l
 once-of l h i j hi hj e = tot-once (λ r. bit (eqb (getD l i 0) r)) l 0 (h (getD l i 0)) i j hi hj
-    (bit-one (eqb (getD l i 0) (getD l i 0)) (eqb-same (getD l i 0) (getD l i 0) refl))
-    (bit-one (eqb (getD l i 0) (getD l j 0)) (eqb-same (getD l i 0) (getD l j 0) e))
+    (bit-one (eqb (getD l i 0) (getD l i 0)) (eq-eqb (getD l i 0) (getD l i 0) refl))
+    (bit-one (eqb (getD l i 0) (getD l j 0)) (eq-eqb (getD l i 0) (getD l j 0) e))
 
 good-of : (κ : Kind) → Ways κ → ((q : ℕ) → givesN q κ ≤ 1) → ((q : ℕ) → readsN q κ ≤ 1) → Good κ
 unfolding Ways Good givesN readsN

@@ -11,8 +11,8 @@ use native.Mathlib.Nat.{le-div-iff-mul-le, mul-comm, le-trans, div-mul-le-self}
 use lib.ListN.{length, getD}
 use lib.Dec.{eqb}
 use lib.IntN.{ℤ, pos}
-use borrow.Author.Tests.{eqb-true, eqb-false}
-use Rattle.theory.proofs.Trace.{eqb-same, mark, cons?, tput, ttake}
+use borrow.Author.Tests.{eqb-true, eqb-false, eq-eqb}
+use Rattle.theory.proofs.Trace.{mark, cons?, tput, ttake}
 use Rattle.theory.proofs.Steps.{Item, Step, runs, lout, lineOp, line-put, line-take}
 use Rattle.theory.proofs.Kahn.{sum, sum-zero, lt-of}
 use Rattle.theory.proofs.Deal.{dealt, onward, onward-lt, dealt-le, oneOf, one-of, Once, dealOp, gatherOp, deal-put, deal-take}
@@ -55,7 +55,7 @@ unfolding dealt
 sum-dealt k c [] h = sym (sum-zero k)
 sum-dealt k c (x ∷ xs) h =
     sum-one k c (λ j. length (dealt k j (onward k c) xs)) (λ j. length (cons? (mark (eqb j c) x) (dealt k j (onward k c) xs))) h
-    (λ j e. rw e) (rw (eqb-same c c refl))
+    (λ j e. rw e) (rw (eq-eqb c c refl))
     ∙ ap suc (sum-dealt k (onward k c) xs (onward-lt k c h))
 
 lout-le : (ss : List Step) (v : ℕ → ℤ) (xs : List Item) → length (lout ss v xs) ≤ length xs
@@ -97,22 +97,22 @@ module _ (W : ℕ → ℕ) (xs : List Item) where
       → (q : ℕ) → denote κ .outs q ≡ true → length (tput (denote κ) nought q xs) ≤ W q
   unfolding denote takesFrom Good WEq lineOp latestOp doubleOp dealOp gatherOp
   grows (line p o ss) w g t q h =
-      let k : length xs ≤ W p = rw line-take at (t p (eqb-same p p refl)) in
+      let k : length xs ≤ W p = rw line-take at (t p (eq-eqb p p refl)) in
       rw (eqb-true q o h, line-put p o ss nought xs, w) (omega (arith, lout-le ss nought xs))
   grows (latest p k f) w g t q h = rw (latest-put p k f q nought xs) (omega arith)
   grows (double p o o′) w g t q h =
-      let k : length xs ≤ W p = rw double-take at (t p (eqb-same p p refl)) in
+      let k : length xs ≤ W p = rw double-take at (t p (eq-eqb p p refl)) in
       rw (double-put p o o′ q nought xs h) (go k (eqb q o) refl h)
     where
       go : length xs ≤ W p → (b : Bool) → eqb q o ≡ b → (b || eqb q o′) ≡ true → length xs ≤ W q
       go k true e h = rw (eqb-true q o e, w .0) k
       go k false e h = rw (eqb-true q o′ h, w .1) k
   grows (deal c p os) w g t q h =
-      let k : length xs ≤ W p = rw deal-take at (t p (eqb-same p p refl)) in
+      let k : length xs ≤ W p = rw deal-take at (t p (eq-eqb p p refl)) in
       let j = way-of os q h in
       subst (λ (r : ℕ). length (tput (dealOp c p os) nought r xs) ≤ W r) (j .2) (deal-grows c p os (g .0) (g .1) w k (j .0) (j .1))
   grows (gather c o is) w g t q h = rw (eqb-true q o h, gather-put c o is nought xs) (gather-grows c o is (g .0) (g .1) w t)
 
--- 01's rule, n / k rounded up on each way, is no less than what 2026-03 asks
+-- n / k rounded up is no less than what way j of a deal gets
 pub rounded-up : (n k j : ℕ) → 0 < k → j < k → (n + (k - 1 - j)) / k ≤ (n + (k - 1)) / k
 rounded-up n k j hk hj = le-div-iff-mul-le hk .1 (le-trans (div-mul-le-self (n + (k - 1 - j)) k) (omega arith))

@@ -11,9 +11,10 @@ use native.Mathlib.Nat.{mul-zero}
 use lib.ListN.{length, getD}
 use lib.Dec.{eqb}
 use lib.IntN.{ℤ, pos, negsuc}
-use borrow.Author.Tests.{eqb-true, eqb-false}
+use borrow.Author.Tests.{eqb-true, eqb-false, eq-eqb}
+use Rattle.lists.proofs.Places.{getD-any}
 use Rattle.theory.proofs.Model.{Op, Local}
-use Rattle.theory.proofs.Trace.{eqb-same, mark, cons?, tv, tput, ttake}
+use Rattle.theory.proofs.Trace.{mark, cons?, tv, tput, ttake}
 use Rattle.theory.proofs.Steps.{Item, upd}
 
 abbrev pub onward : ℕ → ℕ → ℕ
@@ -130,19 +131,19 @@ pub deal-local : (c p : ℕ) (os : List ℕ) → Local Item ℤ (dealOp c p os)
 unfolding dealOp
 deal-local c p os = record {
   sel-local = λ v w h. refl;
-  puts-local = λ x v w h q. rw (h c (eqb-same c c refl));
+  puts-local = λ x v w h q. rw (h c (eq-eqb c c refl));
   puts-out = λ x v q e. rw e;
-  next-local = λ x v w h i e. rw (h c (eqb-same c c refl), h i e);
+  next-local = λ x v w h i e. rw (h c (eq-eqb c c refl), h i e);
   next-frame = λ x v i e. rw e;
 }
 
 pub gather-local : (c o : ℕ) (is : List ℕ) → Local Item ℤ (gatherOp c o is)
 unfolding gatherOp
 gather-local c o is = record {
-  sel-local = λ v w h. rw (h c (eqb-same c c refl));
+  sel-local = λ v w h. rw (h c (eq-eqb c c refl));
   puts-local = λ x v w h q. refl;
   puts-out = λ x v q e. rw e;
-  next-local = λ x v w h i e. rw (h c (eqb-same c c refl), h i e);
+  next-local = λ x v w h i e. rw (h c (eq-eqb c c refl), h i e);
   next-frame = λ x v i e. rw e;
 }
 
@@ -154,7 +155,7 @@ once-eqb : (qs : List ℕ) → Once qs → (i j : ℕ) → i < length qs → j <
 once-eqb qs u i j hi hj = go (eqb i j) refl
   where
     go : (b : Bool) → eqb i j ≡ b → eqb (getD qs i 0) (getD qs j 0) ≡ b
-    go true e = eqb-same (getD qs i 0) (getD qs j 0) (ap (λ (k : ℕ). getD qs k 0) (eqb-true i j e))
+    go true e = eq-eqb (getD qs i 0) (getD qs j 0) (ap (λ (k : ℕ). getD qs k 0) (eqb-true i j e))
     go false e = ne (eqb (getD qs i 0) (getD qs j 0)) refl
       where
         ne : (b : Bool) → eqb (getD qs i 0) (getD qs j 0) ≡ b → b ≡ false
@@ -163,17 +164,12 @@ once-eqb qs u i j hi hj = go (eqb i j) refl
 
 pub one-of : (qs : List ℕ) (j : ℕ) → j < length qs → oneOf (getD qs j 0) qs ≡ true
 one-of [] j h = absurd (omega arith)
-one-of (q ∷ qs) zero h = rw (eqb-same q q refl)
+one-of (q ∷ qs) zero h = rw (eq-eqb q q refl)
 one-of (q ∷ qs) (suc j) h = go (eqb (getD qs j 0) q) (one-of qs j (omega arith))
   where
     go : (b : Bool) → oneOf (getD qs j 0) qs ≡ true → (b || oneOf (getD qs j 0) qs) ≡ true
     go true h = refl
     go false h = h
-
-pub getD-else : {A : Type 0} (l : List A) (i : ℕ) (d d′ : A) → i < length l → getD l i d ≡ getD l i d′
-getD-else [] i d d′ h = absurd (omega arith)
-getD-else (x ∷ l) zero d d′ h = refl
-getD-else (x ∷ l) (suc i) d d′ h = getD-else l i d d′ (omega arith)
 
 -- a deal puts on way j what is dealt to it
 pub deal-put : (c p : ℕ) (os : List ℕ) → Once os → (j : ℕ) → j < length os → (k : ℕ) (v : ℕ → ℤ) (xs : List Item) → v c ≡ pos k
@@ -183,7 +179,7 @@ unfolding dealOp tput dealt
 deal-put c p os u j hj k v [] e hk = refl
 deal-put c p os u j hj k v (x ∷ xs) e hk =
     let ih = deal-put c p os u j hj (onward (length os) k) (upd c (pos (onward (length os) (natOf (v c)))) v) xs
-    (rw (eqb-same c c refl, e)) (onward-lt (length os) k hk) in
+    (rw (eq-eqb c c refl, e)) (onward-lt (length os) k hk) in
     rw (one-of os j hj, e, once-eqb os u j k hj hk) (ap (cons? (mark (eqb j k) x)) (rw e at ih))
 
 -- a gather has taken from way j what would be dealt to it of all that it put
@@ -194,34 +190,34 @@ unfolding gatherOp ttake dealt
 gather-take c o is u j hj k v [] e hk = refl
 gather-take c o is u j hj k v (x ∷ xs) e hk =
     let ih = gather-take c o is u j hj (onward (length is) k) (upd c (pos (onward (length is) (natOf (v c)))) v) xs
-    (rw (eqb-same c c refl, e)) (onward-lt (length is) k hk) in
-    rw (e, getD-else is k (getD is 0 0) 0 hk, once-eqb is u j k hj hk) (ap (cons? (mark (eqb j k) x)) (rw e at ih))
+    (rw (eq-eqb c c refl, e)) (onward-lt (length is) k hk) in
+    rw (e, getD-any is k (getD is 0 0) 0 hk, once-eqb is u j k hj hk) (ap (cons? (mark (eqb j k) x)) (rw e at ih))
 
 pub deal-take : (c p : ℕ) (os : List ℕ) (v : ℕ → ℤ) (xs : List Item) → ttake (dealOp c p os) v p xs ≡ xs
 unfolding dealOp ttake
 deal-take c p os v [] = refl
 deal-take c p os v (x ∷ xs) =
-    rw (eqb-same p p refl) (ap (λ (l : List Item). x ∷ l) (deal-take c p os (upd c (pos (onward (length os) (natOf (v c)))) v) xs))
+    rw (eq-eqb p p refl) (ap (λ (l : List Item). x ∷ l) (deal-take c p os (upd c (pos (onward (length os) (natOf (v c)))) v) xs))
 
 pub gather-put : (c o : ℕ) (is : List ℕ) (v : ℕ → ℤ) (xs : List Item) → tput (gatherOp c o is) v o xs ≡ xs
 unfolding gatherOp tput
 gather-put c o is v [] = refl
 gather-put c o is v (x ∷ xs) =
-    rw (eqb-same o o refl) (ap (λ (l : List Item). x ∷ l) (gather-put c o is (upd c (pos (onward (length is) (natOf (v c)))) v) xs))
+    rw (eq-eqb o o refl) (ap (λ (l : List Item). x ∷ l) (gather-put c o is (upd c (pos (onward (length is) (natOf (v c)))) v) xs))
 
 pub deal-turn : (c p : ℕ) (os : List ℕ) (k : ℕ) (v : ℕ → ℤ) (xs : List Item) → v c ≡ pos k
     → tv (dealOp c p os) v xs c ≡ pos (turn (length os) k xs)
 unfolding dealOp tv turn
 deal-turn c p os k v [] e = e
 deal-turn c p os k v (x ∷ xs) e =
-    deal-turn c p os (onward (length os) k) (upd c (pos (onward (length os) (natOf (v c)))) v) xs (rw (eqb-same c c refl, e))
+    deal-turn c p os (onward (length os) k) (upd c (pos (onward (length os) (natOf (v c)))) v) xs (rw (eq-eqb c c refl, e))
 
 pub gather-turn : (c o : ℕ) (is : List ℕ) (k : ℕ) (v : ℕ → ℤ) (xs : List Item) → v c ≡ pos k
     → tv (gatherOp c o is) v xs c ≡ pos (turn (length is) k xs)
 unfolding gatherOp tv turn
 gather-turn c o is k v [] e = e
 gather-turn c o is k v (x ∷ xs) e =
-    gather-turn c o is (onward (length is) k) (upd c (pos (onward (length is) (natOf (v c)))) v) xs (rw (eqb-same c c refl, e))
+    gather-turn c o is (onward (length is) k) (upd c (pos (onward (length is) (natOf (v c)))) v) xs (rw (eq-eqb c c refl, e))
 
 pub turn-lt : {A : Type 0} (n k : ℕ) (xs : List A) → k < n → turn n k xs < n
 unfolding turn

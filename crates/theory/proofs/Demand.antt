@@ -9,6 +9,7 @@ use Prim.Native.Nat.{ℕ, zero, suc, _+_, _≤_, _<_}
 use native.Mathlib.Omega.{arith}
 use lib.ListN.{length, getD}
 use lib.IntN.{ℤ, pos}
+use Rattle.lists.proofs.Tests.{or-cases}
 use Rattle.theory.proofs.Runs.{Run, Rest}
 use Rattle.theory.proofs.Model.{Op, State, step}
 use Rattle.theory.proofs.Trace.{tput, ttake}
@@ -40,14 +41,10 @@ unfolding heldBy find
 unheld k [] h = refl
 unheld k (κ ∷ l) h = or-none (holds κ k) (find (λ κ. holds κ k) l) (heldBy l k) h (λ e. unheld k l e)
 
-or-true : (a b : Bool) → (a || b) ≡ true → (a ≡ true) ⊎ (b ≡ true)
-or-true true b h = inl refl
-or-true false b h = inr h
-
 pub held : (k : ℕ) (l : List Kind) → heldBy l k ≡ true → (i : ℕ) × (i < length l) × (holds (getD l i blank) k ≡ true)
 unfolding heldBy
 held k [] h = let z : _≡_ {A = ℕ} 0 1 = cc in absurd (omega arith)
-held k (κ ∷ l) h = go (or-true (holds κ k) (heldBy l k) h) (λ e. held k l e)
+held k (κ ∷ l) h = go (or-cases (holds κ k) (heldBy l k) h) (λ e. held k l e)
   where
     go : (holds κ k ≡ true) ⊎ (heldBy l k ≡ true) → (heldBy l k ≡ true → (i : ℕ) × (i < length l) × (holds (getD l i blank) k ≡ true))
         → (i : ℕ) × (i < suc (length l)) × (holds (getD (κ ∷ l) i blank) k ≡ true)

@@ -9,11 +9,12 @@ use native.Mathlib.Omega.{arith}
 use lib.ListN.{length, getD}
 use lib.Dec.{eqb}
 use lib.IntN.{ℤ, pos}
-use borrow.Author.Tests.{eqb-true}
+use borrow.Author.Tests.{eqb-true, eq-eqb}
+use Rattle.lists.proofs.Places.{getD-any}
 use Rattle.theory.proofs.Model.{Op, Local}
-use Rattle.theory.proofs.Trace.{eqb-same, mark, tv, tput, ttake, Fits, OpSol}
+use Rattle.theory.proofs.Trace.{mark, tv, tput, ttake, Fits, OpSol}
 use Rattle.theory.proofs.Steps.{Item, Step, upd, lout, lvars, lineOp, line-local, line-put, line-take, line-var}
-use Rattle.theory.proofs.Deal.{dealt, turn, turn-lt, getD-else, natOf, oneOf, Once, dealOp, gatherOp, deal-local, gather-local}
+use Rattle.theory.proofs.Deal.{dealt, turn, turn-lt, natOf, oneOf, Once, dealOp, gatherOp, deal-local, gather-local}
 use Rattle.theory.proofs.Deal.{deal-put, deal-take, deal-turn, gather-put, gather-take, gather-turn, one-of}
 use Rattle.theory.proofs.Equations.{Kind, line, latest, double, deal, gather, nought, lastOf, Whole, Eq}
 
@@ -79,17 +80,17 @@ Good (gather c o is) = (0 < length is) × Once is
 latest-take : (p k f : ℕ) (v : ℕ → ℤ) (xs : List Item) → ttake (latestOp p k f) v p xs ≡ xs
 unfolding latestOp ttake
 latest-take p k f v [] = refl
-latest-take p k f v (x ∷ xs) = rw (eqb-same p p refl) (ap (λ (l : List Item). x ∷ l) (latest-take p k f (upd k (getD x f (pos 0)) v) xs))
+latest-take p k f v (x ∷ xs) = rw (eq-eqb p p refl) (ap (λ (l : List Item). x ∷ l) (latest-take p k f (upd k (getD x f (pos 0)) v) xs))
 
 latest-var : (p k f : ℕ) (v : ℕ → ℤ) (xs : List Item) → tv (latestOp p k f) v xs k ≡ lastOf (v k) f xs
 unfolding latestOp tv lastOf
 latest-var p k f v [] = refl
-latest-var p k f v (x ∷ xs) = latest-var p k f (upd k (getD x f (pos 0)) v) xs ∙ rw (eqb-same k k refl)
+latest-var p k f v (x ∷ xs) = latest-var p k f (upd k (getD x f (pos 0)) v) xs ∙ rw (eq-eqb k k refl)
 
 pub double-take : (p o o′ : ℕ) (v : ℕ → ℤ) (xs : List Item) → ttake (doubleOp p o o′) v p xs ≡ xs
 unfolding doubleOp ttake
 double-take p o o′ v [] = refl
-double-take p o o′ v (x ∷ xs) = rw (eqb-same p p refl) (ap (λ (l : List Item). x ∷ l) (double-take p o o′ v xs))
+double-take p o o′ v (x ∷ xs) = rw (eq-eqb p p refl) (ap (λ (l : List Item). x ∷ l) (double-take p o o′ v xs))
 
 pub double-put : (p o o′ q : ℕ) (v : ℕ → ℤ) (xs : List Item) → (eqb q o || eqb q o′) ≡ true → tput (doubleOp p o o′) v q xs ≡ xs
 unfolding doubleOp tput
@@ -97,14 +98,14 @@ double-put p o o′ q v [] h = refl
 double-put p o o′ q v (x ∷ xs) h = rw h (ap (λ (l : List Item). x ∷ l) (double-put p o o′ q v xs h))
 
 or-same-left : (a b : ℕ) → (eqb a a || eqb a b) ≡ true
-or-same-left a b = rw (eqb-same a a refl)
+or-same-left a b = rw (eq-eqb a a refl)
 
 or-same-right : (a b : ℕ) → (eqb b a || eqb b b) ≡ true
 or-same-right a b = go (eqb b a)
   where
     go : (x : Bool) → (x || eqb b b) ≡ true
     go true = refl
-    go false = eqb-same b b refl
+    go false = eq-eqb b b refl
 
 -- a way's queue, by its number
 pub way-of : (qs : List ℕ) (q : ℕ) → oneOf q qs ≡ true → (j : ℕ) × (j < length qs) × (getD qs j 0 ≡ q)
@@ -122,14 +123,14 @@ module _ (H : Whole) (u : ℕ → ℤ) (R : ℕ → Type 0) where
   unfolding Eq lineOp
   line-eq p o ss s =
       let h : s .tr ≡ H p = sym (line-take p o ss nought (s .tr)) ∙ s .ends in (
-        s .puts o (eqb-same o o refl) ∙ line-put p o ss nought (s .tr) ∙ ap (lout ss nought) h,
+        s .puts o (eq-eqb o o refl) ∙ line-put p o ss nought (s .tr) ∙ ap (lout ss nought) h,
         λ k e. s .vars k e ∙ ap (λ (f : ℕ → ℤ). f k) (line-var p o ss nought (s .tr)) ∙ ap (λ (l : List Item). lvars ss nought l k) h,
       )
 
   latest-eq : (p k f : ℕ) → OpSol (latestOp p k f) R nought H u → Eq (latest p k f) H u
   unfolding Eq latestOp
   latest-eq p k f s =
-      s .vars k (eqb-same k k refl) ∙ latest-var p k f nought (s .tr)
+      s .vars k (eq-eqb k k refl) ∙ latest-var p k f nought (s .tr)
       ∙ ap (lastOf (pos 0) f) (sym (latest-take p k f nought (s .tr)) ∙ s .ends)
 
   double-eq : (p o o′ : ℕ) → OpSol (doubleOp p o o′) R nought H u → Eq (double p o o′) H u
@@ -145,24 +146,24 @@ module _ (H : Whole) (u : ℕ → ℤ) (R : ℕ → Type 0) where
   deal-eq c p os w o s =
       let h : s .tr ≡ H p = sym (deal-take c p os nought (s .tr)) ∙ s .ends in (
         (λ j hj. s .puts (getD os j 0) (one-of os j hj) ∙ deal-put c p os o j hj 0 nought (s .tr) refl w ∙ ap (dealt (length os) j 0) h),
-        s .vars c (eqb-same c c refl) ∙ deal-turn c p os 0 nought (s .tr) refl ∙ ap (λ (l : List Item). pos (turn (length os) 0 l)) h,
+        s .vars c (eq-eqb c c refl) ∙ deal-turn c p os 0 nought (s .tr) refl ∙ ap (λ (l : List Item). pos (turn (length os) 0 l)) h,
       )
 
   gather-eq : (c o : ℕ) (is : List ℕ) → 0 < length is → Once is → ((p : ℕ) → oneOf p is ≡ true → R p)
       → OpSol (gatherOp c o is) R nought H u → Eq (gather c o is) H u
   unfolding Eq gatherOp
   gather-eq c o is w d r s =
-      let h : H o ≡ s .tr = s .puts o (eqb-same o o refl) ∙ gather-put c o is nought (s .tr) in
+      let h : H o ≡ s .tr = s .puts o (eq-eqb o o refl) ∙ gather-put c o is nought (s .tr) in
       let t = turn (length is) 0 (s .tr) in
       let ht = turn-lt (length is) 0 (s .tr) w in
       let g : getD is (natOf (tv (gatherOp c o is) nought (s .tr) c)) (getD is 0 0) ≡ getD is t 0 =
-      rw (gather-turn c o is 0 nought (s .tr) refl) (getD-else is t (getD is 0 0) 0 ht) in
+      rw (gather-turn c o is 0 nought (s .tr) refl) (getD-any is t (getD is 0 0) 0 ht) in
       rw h (
         (λ j hj. let k = s .takes (getD is j 0) (r (getD is j 0) (one-of is j hj)) in
             (k .0, ap (λ (l : List Item). l ++ k .0) (sym (gather-take c o is d j hj 0 nought (s .tr) refl w)) ∙ k .1)),
         sym (gather-take c o is d t ht 0 nought (s .tr) refl w)
             ∙ subst (λ (q : ℕ). ttake (gatherOp c o is) nought q (s .tr) ≡ H q) g (s .ends),
-        s .vars c (eqb-same c c refl) ∙ gather-turn c o is 0 nought (s .tr) refl,
+        s .vars c (eq-eqb c c refl) ∙ gather-turn c o is 0 nought (s .tr) refl,
       )
 
   pub sol-eq : (κ : Kind) → ((p : ℕ) → takesFrom κ p ≡ true → R p) → Good κ → OpSol (denote κ) R nought H u → Eq κ H u
@@ -244,7 +245,7 @@ module _ (H : Whole) (u : ℕ → ℤ) (R : ℕ → Type 0) where
         let t = turn (length is) 0 (H o) in
         let ht = turn-lt (length is) 0 (H o) w in
         let g : getD is (natOf (tv (gatherOp c o is) nought (H o) c)) (getD is 0 0) ≡ getD is t 0 =
-        rw (gather-turn c o is 0 nought (H o) refl) (getD-else is t (getD is 0 0) 0 ht) in
+        rw (gather-turn c o is 0 nought (H o) refl) (getD-any is t (getD is 0 0) 0 ht) in
         subst (λ (q : ℕ). ttake (gatherOp c o is) nought q (H o) ≡ H q) (sym g) (gather-take c o is d t ht 0 nought (H o) refl w ∙ e .1);
     puts = λ q h.
         subst (λ (k : ℕ). H k ≡ tput (gatherOp c o is) nought k (H o)) (sym (eqb-true q o h)) (sym (gather-put c o is nought (H o)));

@@ -9,14 +9,15 @@ use native.Mathlib.Omega.{arith}
 use lib.ListN.{length, length-map, getD, List·getD-map}
 use lib.IntN.{ℤ, pos}
 use Rattle.lists.proofs.Build.{never}
+use Rattle.lists.proofs.Places.{getD-any}
 use Rattle.theory.proofs.Steps.{Item, Step, names, lout, lvars, Fused, fuse}
-use Rattle.theory.proofs.Deal.{dealt, turn, dealt-map, turn-map, turn-lt, getD-else}
+use Rattle.theory.proofs.Deal.{dealt, turn, dealt-map, turn-map, turn-lt}
 use Rattle.theory.proofs.Equations.{Kind, line, latest, double, deal, gather, nought, Whole, Eq, Queues, Variables, Ways, ren}
 use Rattle.theory.proofs.Equations.{names-append, bindO, pure, pruns, sift, sift-sift, lout-pure, pure-names, total, image}
 use Rattle.theory.proofs.Equations.{lout-total, total-names}
 
 getD-ren : (ρ : ℕ → ℕ) (l : List ℕ) (j : ℕ) → j < length l → getD (map ρ l) j 0 ≡ ρ (getD l j 0)
-getD-ren ρ l j h = getD-else (map ρ l) j 0 (ρ 0) (rw (length-map l ρ) h) ∙ List·getD-map ρ l j 0
+getD-ren ρ l j h = getD-any (map ρ l) j 0 (ρ 0) (rw (length-map l ρ) h) ∙ List·getD-map ρ l j 0
 
 -- queues renamed, and contents that agree where the operator looks
 pub eq-ren : (κ : Kind) (ρ : ℕ → ℕ) (H H′ : Whole) (u u′ : ℕ → ℤ) → Ways κ → Queues κ (λ r. H′ (ρ r) ≡ H r)

@@ -13,8 +13,10 @@ use lib.Dec.{eqb}
 use lib.IntN.{ℤ, pos}
 use lib.Signed.{leZ}
 use lib.Seq.{getD-set-other, set-comm}
-use borrow.Author.Tests.{eqb-false}
-use Rattle.theory.proofs.Trace.{eqb-same, cons?}
+use borrow.Author.Tests.{eqb-false, eq-eqb}
+use Rattle.lists.proofs.Build.{never}
+use Rattle.lists.proofs.Tests.{both}
+use Rattle.theory.proofs.Trace.{cons?}
 use Rattle.theory.proofs.Steps.{Item, Step, keep, add, copy, count, stamp, one, then, named, plus, names, runs, lout, lvars}
 use Rattle.theory.proofs.Deal.{dealt, turn}
 
@@ -114,19 +116,11 @@ one-pure (copy p r) x v h = refl
 one-pure (count k p) x v h = let z : _≡_ {A = ℕ} 0 1 = cc in absurd (omega arith)
 one-pure (stamp k p) x v h = let z : _≡_ {A = ℕ} 0 1 = cc in absurd (omega arith)
 
-and-left : (a b : Bool) → (a && b) ≡ true → a ≡ true
-and-left true b h = refl
-and-left false b h = h
-
-and-right : (a b : Bool) → (a && b) ≡ true → b ≡ true
-and-right true b h = h
-and-right false b h = let z : _≡_ {A = ℕ} 0 1 = cc in absurd (omega arith)
-
 runs-pure : (ss : List Step) (x : Item) (v : ℕ → ℤ) → pure ss ≡ true → runs ss x v ≡ (pruns ss x, v)
 unfolding runs pure pruns
 runs-pure [] x v h = refl
 runs-pure (s ∷ ss) x v h =
-    rw (one-pure s x v (and-left (pure1 s) (pure ss) h)) (go (p1 s x) (λ y. runs-pure ss y v (and-right (pure1 s) (pure ss) h)))
+    rw (one-pure s x v (both (pure1 s) (pure ss) h .0)) (go (p1 s x) (λ y. runs-pure ss y v (both (pure1 s) (pure ss) h .1)))
   where
     go : (o : Option Item) → ((y : Item) → runs ss y v ≡ (pruns ss y, v)) → then o v (λ y w. runs ss y w) ≡ (bindO o (λ y. pruns ss y), v)
     go none ih = refl
@@ -140,7 +134,7 @@ lout-pure ss v (x ∷ xs) h = rw (runs-pure ss x v h) (ap (cons? (pruns ss x)) (
 pub pure-names : (ss : List Step) (k : ℕ) → pure ss ≡ true → names ss k ≡ false
 unfolding pure names
 pure-names [] k h = refl
-pure-names (s ∷ ss) k h = go s (and-left (pure1 s) (pure ss) h) (pure-names ss k (and-right (pure1 s) (pure ss) h))
+pure-names (s ∷ ss) k h = go s (both (pure1 s) (pure ss) h .0) (pure-names ss k (both (pure1 s) (pure ss) h .1))
   where
     go : (s : Step) → pure1 s ≡ true → names ss k ≡ false → (named s k || names ss k) ≡ false
     go (keep p lo hi) h ih = ih
@@ -210,9 +204,6 @@ ne p r e = eqb-false p r e
 en : (p r : ℕ) → eqb p r ≡ false → r ≢ p
 en p r e h = eqb-false p r e (sym h)
 
-off : {A : Type 0} → false ≡ true → A
-off e = let z : _≡_ {A = ℕ} 0 1 = cc in absurd (omega arith)
-
 add-copy : (p q r : ℕ) (a : ℤ) → eqb p q ≡ false → eqb p r ≡ false → (x : Item)
     → bindO (p1 (add p a) x) (p1 (copy q r)) ≡ bindO (p1 (copy q r) x) (p1 (add p a))
 unfolding one
@@ -224,29 +215,29 @@ pub commute1 : (s t : Step) → pure1 s ≡ true → pure1 t ≡ true → Free s
     → bindO (p1 s x) (p1 t) ≡ bindO (p1 t x) (p1 s)
 unfolding one
 commute1 (keep p lo hi) (keep q lo′ hi′) hs ht f g x = keep-keep p q lo hi lo′ hi′ x
-commute1 (keep p lo hi) (add q a) hs ht f g x = keep-put p q lo hi (λ y. plus (getD y q (pos 0)) a) (en q p (g q (eqb-same q q refl) .0)) x
-commute1 (keep p lo hi) (copy q r) hs ht f g x = keep-put p r lo hi (λ y. getD y q (pos 0)) (en r p (g r (eqb-same r r refl) .0)) x
+commute1 (keep p lo hi) (add q a) hs ht f g x = keep-put p q lo hi (λ y. plus (getD y q (pos 0)) a) (en q p (g q (eq-eqb q q refl) .0)) x
+commute1 (keep p lo hi) (copy q r) hs ht f g x = keep-put p r lo hi (λ y. getD y q (pos 0)) (en r p (g r (eq-eqb r r refl) .0)) x
 commute1 (add q a) (keep p lo hi) hs ht f g x =
-    sym (keep-put p q lo hi (λ y. plus (getD y q (pos 0)) a) (en q p (f q (eqb-same q q refl) .0)) x)
-commute1 (copy q r) (keep p lo hi) hs ht f g x = sym (keep-put p r lo hi (λ y. getD y q (pos 0)) (en r p (f r (eqb-same r r refl) .0)) x)
+    sym (keep-put p q lo hi (λ y. plus (getD y q (pos 0)) a) (en q p (f q (eq-eqb q q refl) .0)) x)
+commute1 (copy q r) (keep p lo hi) hs ht f g x = sym (keep-put p r lo hi (λ y. getD y q (pos 0)) (en r p (f r (eq-eqb r r refl) .0)) x)
 commute1 (add p a) (add q b) hs ht f g x =
-    put-put p q (λ y. plus (getD y p (pos 0)) a) (λ y. plus (getD y q (pos 0)) b) x (ne p q (f p (eqb-same p p refl) .0))
-    (ap (λ (z : ℤ). plus z b) (getD-set-other x p q (plus (getD x p (pos 0)) a) (pos 0) (en p q (f p (eqb-same p p refl) .0))))
-    (ap (λ (z : ℤ). plus z a) (getD-set-other x q p (plus (getD x q (pos 0)) b) (pos 0) (en q p (g q (eqb-same q q refl) .0))))
-commute1 (add p a) (copy q r) hs ht f g x = add-copy p q r a (f p (eqb-same p p refl) .0) (f p (eqb-same p p refl) .1) x
-commute1 (copy q r) (add p a) hs ht f g x = sym (add-copy p q r a (g p (eqb-same p p refl) .0) (g p (eqb-same p p refl) .1) x)
+    put-put p q (λ y. plus (getD y p (pos 0)) a) (λ y. plus (getD y q (pos 0)) b) x (ne p q (f p (eq-eqb p p refl) .0))
+    (ap (λ (z : ℤ). plus z b) (getD-set-other x p q (plus (getD x p (pos 0)) a) (pos 0) (en p q (f p (eq-eqb p p refl) .0))))
+    (ap (λ (z : ℤ). plus z a) (getD-set-other x q p (plus (getD x q (pos 0)) b) (pos 0) (en q p (g q (eq-eqb q q refl) .0))))
+commute1 (add p a) (copy q r) hs ht f g x = add-copy p q r a (f p (eq-eqb p p refl) .0) (f p (eq-eqb p p refl) .1) x
+commute1 (copy q r) (add p a) hs ht f g x = sym (add-copy p q r a (g p (eq-eqb p p refl) .0) (g p (eq-eqb p p refl) .1) x)
 commute1 (copy p r) (copy q s) hs ht f g x =
-    put-put r s (λ y. getD y p (pos 0)) (λ y. getD y q (pos 0)) x (ne r s (f r (eqb-same r r refl) .1))
-    (getD-set-other x r q (getD x p (pos 0)) (pos 0) (en r q (f r (eqb-same r r refl) .0)))
-    (getD-set-other x s p (getD x q (pos 0)) (pos 0) (en s p (g s (eqb-same s s refl) .0)))
-commute1 (keep p lo hi) (count k r) hs ht f g x = off ht
-commute1 (keep p lo hi) (stamp k r) hs ht f g x = off ht
-commute1 (add p a) (count k r) hs ht f g x = off ht
-commute1 (add p a) (stamp k r) hs ht f g x = off ht
-commute1 (copy p r) (count k s) hs ht f g x = off ht
-commute1 (copy p r) (stamp k s) hs ht f g x = off ht
-commute1 (count k p) t hs ht f g x = off hs
-commute1 (stamp k p) t hs ht f g x = off hs
+    put-put r s (λ y. getD y p (pos 0)) (λ y. getD y q (pos 0)) x (ne r s (f r (eq-eqb r r refl) .1))
+    (getD-set-other x r q (getD x p (pos 0)) (pos 0) (en r q (f r (eq-eqb r r refl) .0)))
+    (getD-set-other x s p (getD x q (pos 0)) (pos 0) (en s p (g s (eq-eqb s s refl) .0)))
+commute1 (keep p lo hi) (count k r) hs ht f g x = never ht
+commute1 (keep p lo hi) (stamp k r) hs ht f g x = never ht
+commute1 (add p a) (count k r) hs ht f g x = never ht
+commute1 (add p a) (stamp k r) hs ht f g x = never ht
+commute1 (copy p r) (count k s) hs ht f g x = never ht
+commute1 (copy p r) (stamp k s) hs ht f g x = never ht
+commute1 (count k p) t hs ht f g x = never hs
+commute1 (stamp k p) t hs ht f g x = never hs
 
 -- and so do whole lists of them
 abbrev pub Frees : Step → List Step → Type 0
@@ -309,17 +300,17 @@ image (s ∷ ss) x = image ss (image1 s x)
 
 one-total : (s : Step) (x : Item) (v : ℕ → ℤ) → total1 s ≡ true → one s x v ≡ (some (image1 s x), v)
 unfolding one
-one-total (keep p lo hi) x v h = off h
+one-total (keep p lo hi) x v h = never h
 one-total (add p lo) x v h = refl
 one-total (copy p r) x v h = refl
-one-total (count k p) x v h = off h
-one-total (stamp k p) x v h = off h
+one-total (count k p) x v h = never h
+one-total (stamp k p) x v h = never h
 
 runs-total : (ss : List Step) (x : Item) (v : ℕ → ℤ) → total ss ≡ true → runs ss x v ≡ (some (image ss x), v)
 unfolding runs total image
 runs-total [] x v h = refl
 runs-total (s ∷ ss) x v h =
-    rw (one-total s x v (and-left (total1 s) (total ss) h)) (runs-total ss (image1 s x) v (and-right (total1 s) (total ss) h))
+    rw (one-total s x v (both (total1 s) (total ss) h .0)) (runs-total ss (image1 s x) v (both (total1 s) (total ss) h .1))
 
 pub lout-total : (ss : List Step) (v : ℕ → ℤ) (xs : List Item) → total ss ≡ true → lout ss v xs ≡ map (image ss) xs
 unfolding lout
@@ -329,11 +320,11 @@ lout-total ss v (x ∷ xs) h = rw (runs-total ss x v h) (ap (λ (l : List Item).
 pub total-names : (ss : List Step) (k : ℕ) → total ss ≡ true → names ss k ≡ false
 unfolding total names
 total-names [] k h = refl
-total-names (s ∷ ss) k h = go s (and-left (total1 s) (total ss) h) (total-names ss k (and-right (total1 s) (total ss) h))
+total-names (s ∷ ss) k h = go s (both (total1 s) (total ss) h .0) (total-names ss k (both (total1 s) (total ss) h .1))
   where
     go : (s : Step) → total1 s ≡ true → names ss k ≡ false → (named s k || names ss k) ≡ false
-    go (keep p lo hi) h ih = off h
+    go (keep p lo hi) h ih = never h
     go (add p lo) h ih = ih
     go (copy p r) h ih = ih
-    go (count k p) h ih = off h
-    go (stamp k p) h ih = off h
+    go (count k p) h ih = never h
+    go (stamp k p) h ih = never h

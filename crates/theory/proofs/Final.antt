@@ -7,12 +7,14 @@ use Prim.Native.Nat.{ℕ, suc, pred, _+_, _≤_, _<_}
 use native.Mathlib.Omega.{arith}
 use lib.Dec.{eqb}
 use lib.IntN.{ℤ}
+use borrow.Author.Tests.{ne-eqb}
+use Rattle.lists.specs.Lists.{bit}
 use Rattle.theory.proofs.Runs.{Rest, exec, fired, exec-run}
 use Rattle.theory.proofs.Model.{State}
 use Rattle.theory.proofs.Steps.{Item, Step}
 use Rattle.theory.proofs.Equations.{Kind, line, Whole, nought, pure, total, Freed, commute}
-use Rattle.theory.proofs.Rewrites.{readBy, harvest, F-eqb}
-use Rattle.theory.proofs.Accept.{bit, tot, holdsN, Acc, accepted}
+use Rattle.theory.proofs.Rewrites.{readBy, harvest}
+use Rattle.theory.proofs.Accept.{tot, holdsN, Acc, accepted}
 use Rattle.theory.proofs.Demand.{Refines, refines-none, refines-more, Counted, rests, demand-three}
 use Rattle.theory.proofs.Sheets.{sheetOf, find}
 use Rattle.theory.proofs.Denote.{takesFrom}
@@ -81,7 +83,7 @@ made {I} (splitted {Q} {V′} {Q₂} {V₂} {ops} p o k ss pre post hk t x) c =
       calm = record {
         acc = split-acc I Q₂ V₂ p o k ss pre post q hk t hv;
         vars = λ i h.
-            let e : bit (eqb i V₂) + bit (eqb i (suc V₂)) ≡ 0 = rw (F-eqb i V₂ (λ e. omega arith), F-eqb i (suc V₂) (λ e. omega arith)) in
+            let e : bit (eqb i V₂) + bit (eqb i (suc V₂)) ≡ 0 = rw (ne-eqb i V₂ (λ e. omega arith), ne-eqb i (suc V₂) (λ e. omega arith)) in
             omega (arith, held-more I Q₂ V₂ p o k ss pre post q hk t hv i, hv i (omega arith));
       };
       more = omega (arith, r .more);
@@ -109,7 +111,7 @@ demand-3 {I} {Q} {V′} {Q₂} {V₂} {ops} {ops₂} c x feed z W W₂ w w₂ is
     (exec (fires ops) is (begin feed)) (exec (fires ops₂) js (begin feed)) (exec-run (fires ops) is (begin feed)) r
     (exec-run (fires ops₂) js (begin feed)) r₂
 
--- 2026-10: how often anything fires, from the fed, fresh state
+-- how often anything fires, from the fed, fresh state, is bounded by the worst counts
 pub firings-le : {I Q V′ : ℕ} {ops : List Kind} → Calm I Q V′ ops → (feed : Whole) → ((q : ℕ) → I ≤ q → feed q ≡ []) → (W : ℕ → ℕ)
     → Counted ops feed W
     → (is : List ℕ) → Rest (fires ops) (exec (fires ops) is (begin feed))

@@ -1,21 +1,22 @@
 -- A fused sheet is accepted and calm, and what fuse needs follows from the old sheet's acceptance.
 -- Assumes nothing.
 use mathlib.Core.Path.{_≡_, refl, ap, sym, _∙_}
-use mathlib.Core.Bool.{Bool, true, false, cond, _||_}
+use mathlib.Core.Bool.{Bool, true, false, cond}
 use mathlib.Core.Logic.{_≢_}
 use mathlib.Core.List.{List, [], _∷_, _++_, map}
 use Prim.Native.Nat.{ℕ, suc, pred, _+_, _≤_, _<_}
 use native.Mathlib.Omega.{arith}
 use lib.ListN.{length, getD, length-map}
 use lib.Dec.{eqb, ltb}
-use borrow.Author.Tests.{ltb-false}
-use Rattle.theory.proofs.Trace.{eqb-same}
+use borrow.Author.Tests.{ltb-false, eq-eqb, le-ltb, ne-eqb}
+use Rattle.lists.specs.Lists.{bit}
+use Rattle.lists.proofs.Bits.{bit-or, bit-one}
 use Rattle.theory.proofs.Steps.{Step, names, lineOp}
 use Rattle.theory.proofs.Equations.{Kind, line, latest, double, deal, gather, Queues, Ways, ren, names-append}
 use Rattle.theory.proofs.Denote.{denote}
 use Rattle.theory.proofs.Rewrites.{All, none-left, also, first, rest, all-join, all-left, all-right, all-map, Keeps, down, up}
-use Rattle.theory.proofs.Rewrites.{up-ne, eqb-down, F-ltb, F-eqb}
-use Rattle.theory.proofs.Accept.{bit, bit-one, tot, tot-append, tot-at, occ, givesN, readsN, holdsN, Ord, ord-end, ord-on}
+use Rattle.theory.proofs.Rewrites.{up-ne, eqb-down}
+use Rattle.theory.proofs.Accept.{tot, tot-append, tot-at, occ, givesN, readsN, holdsN, Ord, ord-end, ord-on}
 use Rattle.theory.proofs.Accept.{ord-head, ord-rest, Acc, accepted, not-input}
 use Rattle.theory.proofs.Demand.{Refines}
 use Rattle.theory.proofs.Refine.{fuse-refines, holds-ren}
@@ -26,7 +27,7 @@ all-zero f [] h = none-left
 all-zero f (x ∷ xs) h = also {x = x} (omega arith) (all-zero f xs (omega arith))
 
 pub bit-zero : (a b : ℕ) → bit (eqb a b) ≡ 0 → b ≢ a
-bit-zero a b h e = let z : eqb a b ≡ true = eqb-same a b (sym e) in omega (arith, bit-one (eqb a b) z)
+bit-zero a b h e = let z : eqb a b ≡ true = eq-eqb a b (sym e) in omega (arith, bit-one (eqb a b) z)
 
 queue-free : (m : ℕ) (κ : Kind) → readsN m κ ≡ 0 → givesN m κ ≡ 0 → Queues κ (λ r. r ≢ m)
 unfolding readsN givesN Queues
@@ -94,10 +95,6 @@ ord-swap (κ ∷ pre) xs ys l o o′ = ord-on {κ = κ} {κs = pre ++ ys}
     (λ q h. let e = rw (tot-append (givesN q) pre xs) at (ord-head o q h) in rw (tot-append (givesN q) pre ys) (omega (arith, l q)))
     (ord-swap pre xs ys l (ord-rest o) o′)
 
-bit-or : (a b : Bool) → bit (a || b) ≤ bit a + bit b
-bit-or true b = omega arith
-bit-or false b = omega arith
-
 module _ (I Q p m o : ℕ) (a b : List Step) (pre mid post : List Kind) where
   abbrev pub old : List Kind
   old = pre ++ (line p m a ∷ (mid ++ (line m o b ∷ post)))
@@ -129,7 +126,7 @@ module _ (I Q p m o : ℕ) (a b : List Step) (pre mid post : List Kind) where
 
     reads-here : (q : ℕ) (r : ℕ) (ss : List Step) → 1 ≤ readsN q (line q r ss)
     unfolding readsN
-    reads-here q r ss = bit-one (eqb q q) (eqb-same q q refl)
+    reads-here q r ss = bit-one (eqb q q) (eq-eqb q q refl)
 
     pub p≢m : p ≢ m
     unfolding givesN
@@ -141,7 +138,7 @@ module _ (I Q p m o : ℕ) (a b : List Step) (pre mid post : List Kind) where
 
     gives-m : 1 ≤ givesN m (line p m a)
     unfolding givesN
-    gives-m = bit-one (eqb m m) (eqb-same m m refl)
+    gives-m = bit-one (eqb m m) (eq-eqb m m refl)
 
     pub m-in : (I ≤ m) × (m < Q)
     m-in = not-input I Q old acc m (omega (arith, old-tot (givesN m), gives-m))
@@ -194,14 +191,14 @@ module _ (I Q p m o : ℕ) (a b : List Step) (pre mid post : List Kind) where
     gives-new : (q : ℕ) → tot (givesN q) new ≡ tot (givesN (up m q)) old
     unfolding givesN
     gives-new q =
-        let z : bit (eqb (up m q) m) ≡ 0 = rw (F-eqb (up m q) m (up-ne m q)) in
+        let z : bit (eqb (up m q) m) ≡ 0 = rw (ne-eqb (up m q) m (up-ne m q)) in
         tot-ren m (givesN q) (givesN (up m q)) (λ κ k. gives-down m q κ k) keeps-bare
         ∙ omega (arith, old-tot (givesN (up m q)), bare-tot (givesN (up m q)))
 
     reads-new : (q : ℕ) → tot (readsN q) new ≡ tot (readsN (up m q)) old
     unfolding readsN
     reads-new q =
-        let z : bit (eqb (up m q) m) ≡ 0 = rw (F-eqb (up m q) m (up-ne m q)) in
+        let z : bit (eqb (up m q) m) ≡ 0 = rw (ne-eqb (up m q) m (up-ne m q)) in
         tot-ren m (readsN q) (readsN (up m q)) (λ κ k. reads-down m q κ k) keeps-bare
         ∙ omega (arith, old-tot (readsN (up m q)), bare-tot (readsN (up m q)))
 
@@ -229,14 +226,14 @@ module _ (I Q p m o : ℕ) (a b : List Step) (pre mid post : List Kind) where
         go false = omega arith
 
     up-ge : (q : ℕ) → pred Q ≤ q → Q ≤ up m q
-    up-ge q h = let z : ltb q m ≡ false = F-ltb q m (omega (arith, m-in .1)) in rw z (omega (arith, m-in .1))
+    up-ge q h = let z : ltb q m ≡ false = le-ltb q m (omega (arith, m-in .1)) in rw z (omega (arith, m-in .1))
 
     up-input : (q : ℕ) → ltb (up m q) I ≡ ltb q I
     up-input q = go (ltb q m) refl
       where
         go : (x : Bool) → ltb q m ≡ x → ltb (cond x q (suc q)) I ≡ ltb q I
         go true e = refl
-        go false e = let l = ltb-false q m e in F-ltb (suc q) I (omega (arith, m-in .0)) ∙ sym (F-ltb q I (omega (arith, m-in .0)))
+        go false e = let l = ltb-false q m e in le-ltb (suc q) I (omega (arith, m-in .0)) ∙ sym (le-ltb q I (omega (arith, m-in .0)))
 
     -- the fused sheet is accepted, and calm
     pub fuse-acc : Acc I (pred Q) new

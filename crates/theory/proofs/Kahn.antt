@@ -10,11 +10,12 @@ use native.Mathlib.Omega.{arith}
 use native.Mathlib.Nat.{zero-add}
 use lib.ListN.{length, length-append}
 use lib.Dec.{eqb, ltb, lt→ltb}
-use borrow.Author.Tests.{eqb-true, eqb-false}
+use borrow.Author.Tests.{eqb-true, eqb-false, eq-eqb}
+use Rattle.lists.proofs.Tests.{false-of}
 use Rattle.theory.proofs.Runs.{Run, stop, fire, Rest}
 use Rattle.theory.proofs.Model.{T-true, State, Op, Vars, Agree, Local, Can, push, pop, after, fire-can, can-fire, room, fits, step}
 use Rattle.theory.proofs.Model.{stepAt}
-use Rattle.theory.proofs.Trace.{eqb-same, mark, shift, tv, tput, ttake, tv-snoc, tput-snoc, ttake-snoc, Ends, one-trace, OpSol}
+use Rattle.theory.proofs.Trace.{mark, shift, tv, tput, ttake, tv-snoc, tput-snoc, ttake-snoc, Ends, one-trace, OpSol}
 
 -- a calm sheet, as far as the theory sees it
 pub record Sheet (Item Val : Type 0) : Type 0 where
@@ -36,10 +37,6 @@ pub record Sheet (Item Val : Type 0) : Type 0 where
 unfoldable pub sum : ℕ → (ℕ → ℕ) → ℕ
 sum zero f = 0
 sum (suc n) f = f n + sum n f
-
-not-true : (b : Bool) → (b ≡ true → ⊥) → b ≡ false
-not-true true f = absurd (f refl)
-not-true false f = refl
 
 abbrev pub weight : Option ℕ → ℕ → ℕ
 weight none k = 0
@@ -63,7 +60,7 @@ sum-off : {Item : Type 0} (n p : ℕ) (h : ℕ → List Item) (x : Item) → n �
 unfolding sum
 sum-off zero p h x l = refl
 sum-off (suc n) p h x l =
-    rw (not-true (eqb n p) (λ e. omega (arith, eqb-true n p e))) (ap (λ (m : ℕ). length (h n) + m) (sum-off n p h x (omega arith)))
+    rw (false-of (eqb n p) (λ e. omega (arith, eqb-true n p e))) (ap (λ (m : ℕ). length (h n) + m) (sum-off n p h x (omega arith)))
 
 sum-bump : {Item : Type 0} (n p : ℕ) (h : ℕ → List Item) (x : Item) → p < n
     → sum n (λ k. length (push (mark (eqb k p) x) (h k))) ≡ suc (sum n (λ k. length (h k)))
@@ -140,20 +137,20 @@ module _ {Item Val : Type 0} (S : Sheet Item Val) (feed : ℕ → List Item) (v�
         moved q = shift (eqb q p) (o .puts x (s .var) q) (v .had q) (s .queue q) x (λ e. rw (eqb-true q p e) (c .head))
 
         elsewhere : (q : ℕ) → (S .definer q ≡ some i → ⊥) → o .puts x (s .var) q ≡ none
-        elsewhere q f = S .loc i .puts-out x (s .var) q (not-true (o .outs q) (λ e. f (S .outs-def i q e)))
+        elsewhere q f = S .loc i .puts-out x (s .var) q (false-of (o .outs q) (λ e. f (S .outs-def i q e)))
 
         quiet : (q : ℕ) → S .definer q ≡ none → o .puts x (s .var) q ≡ none
         quiet q hd = elsewhere q (λ e. let z : _≡_ {A = ℕ} 0 1 = cc in omega arith)
 
         other : (k : ℕ) → S .reader k ≡ none → eqb k p ≡ false
-        other k hk = not-true (eqb k p) (λ e. let h = eqb-true k p e in let z : _≡_ {A = ℕ} 0 1 = cc in omega arith)
+        other k hk = false-of (eqb k p) (λ e. let h = eqb-true k p e in let z : _≡_ {A = ℕ} 0 1 = cc in omega arith)
 
         takes : (k j : ℕ) → S .reader k ≡ some j → (b : Bool) → eqb j i ≡ b
             → push (mark (eqb k p) x) (v .had k) ≡ ttake (S .op j) v₀ k (cond b (v .tr i ++ (x ∷ [])) (v .tr j))
         takes k j hk true e =
             let h = eqb-true j i e in rw (h, ttake-snoc (S .op i) v₀ k (v .tr i) x, here) (ap (push (mark (eqb k p) x)) (v .takes k i (cc)))
         takes k j hk false e =
-            let z : eqb k p ≡ false = not-true (eqb k p) (λ h. let k=p = eqb-true k p h in eqb-false j i e (cc)) in rw z (v .takes k j hk)
+            let z : eqb k p ≡ false = false-of (eqb k p) (λ h. let k=p = eqb-true k p h in eqb-false j i e (cc)) in rw z (v .takes k j hk)
 
         puts : (q j : ℕ) → S .definer q ≡ some j → (b : Bool) → eqb j i ≡ b
             → push (o .puts x (s .var) q) (v .had q ++ s .queue q) ≡ tput (S .op j) v₀ q (cond b (v .tr i ++ (x ∷ [])) (v .tr j))
@@ -309,7 +306,7 @@ module _ {Item Val : Type 0} (S : Sheet Item Val) (feed : ℕ → List Item) (v�
         go (x ∷ l) e =
             let hh : head? (s .queue p) ≡ some x = rw e in
             let c : Can bd n (S .op i) p x s = record {
-              at = eqb-same p p refl;
+              at = eq-eqb p p refl;
               head = hh;
               free = room-all bd n (S .op i .puts x (s .var)) (s .queue) (roomy p i x hr refl hh);
             } in

@@ -18,5 +18,4 @@ pub mod FuseAcc
 pub mod MoreAcc
 pub mod Final
 pub mod Scan
-pub mod Cut
 pub mod WorstOf

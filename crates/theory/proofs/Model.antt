@@ -9,6 +9,7 @@ use Prim.Native.Nat.{ℕ, zero, suc, _≤_}
 use native.Mathlib.Omega.{arith}
 use lib.ListN.{length}
 use lib.Dec.{eqb, ltb, T, lt→ltb}
+use Rattle.lists.proofs.Build.{never'}
 use Rattle.theory.proofs.Runs.{Diamond, Meet}
 use borrow.Author.Tests.{eqb-true, eqb-false, ltb-true}
 
@@ -108,9 +109,6 @@ module _ {Item Val : Type 0} where
       go true h₁ none h₂ e = no-way e
       go true h₁ (some x) h₂ e = go₂ x (room bd n (o .puts x (s .var)) (s .queue)) refl h₁ h₂ e
 
-both : {A : Type 0} → true ≡ false → A
-both e = let z : _≡_ {A = ℕ} 0 1 = cc in absurd (omega arith)
-
 pub T-true : (b : Bool) → T b → b ≡ true
 T-true true t = refl
 T-true false t = absurd t
@@ -139,7 +137,7 @@ module _ {Item : Type 0} where
   pub swap : (f g : Bool) (a b : Option Item) (l : List Item) (x y : Item)
       → (f ≡ true → g ≡ false) → (f ≡ true → head? l ≡ some x) → (g ≡ true → head? l ≡ some y) → (a ≡ none) ⊎ (b ≡ none)
       → push a (pop f (push b (pop g l))) ≡ push b (pop g (push a (pop f l)))
-  swap true true a b l x y n hf hg d = both (n refl)
+  swap true true a b l x y n hf hg d = never' (n refl)
   swap true false a b l x y n hf hg d = ap (push a) (pop-push b l x (hf refl)) ∙ push-push a b (pop true l) d
   swap false true a b l x y n hf hg d = push-push a b (pop true l) d ∙ ap (push b) (sym (pop-push a l y (hg refl)))
   swap false false a b l x y n hf hg d = push-push a b l d
@@ -165,7 +163,7 @@ module _ {Item : Type 0} where
       go : (b : Bool) → fits bd (p n) (q n) ≡ b → (room bd n p q ≡ true → room bd n p′ q′ ≡ true) → b && room bd n p q ≡ true
           → fits bd (p′ n) (q′ n) && room bd n p′ q′ ≡ true
       go true e ih h = rw (k n e) (ih h)
-      go false e ih h = both (sym h)
+      go false e ih h = never' (sym h)
 
 module _ {Item Val : Type 0} (bd n : ℕ) (a b : Op Item Val) (la : Local Item Val a) (lb : Local Item Val b) where
   -- firing b leaves a's variables

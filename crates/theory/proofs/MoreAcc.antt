@@ -6,18 +6,19 @@ use mathlib.Core.Logic.{_≢_}
 use mathlib.Core.List.{List, [], _∷_, _++_}
 use Prim.Native.Nat.{ℕ, zero, suc, _+_, _≤_, _<_}
 use native.Mathlib.Omega.{arith}
-use lib.ListN.{length, getD}
+use lib.ListN.{getD}
 use lib.Dec.{eqb, ltb}
 use lib.IntN.{pos}
-use borrow.Author.Tests.{eqb-true, eqb-false, ltb-true, ltb-false}
-use Rattle.theory.proofs.Trace.{eqb-same}
+use borrow.Author.Tests.{eqb-true, eqb-false, ltb-true, ltb-false, eq-eqb, le-ltb, ne-eqb}
+use Rattle.lists.specs.Lists.{bit}
+use Rattle.lists.proofs.Bits.{bit-one, one-bit}
 use Rattle.theory.proofs.Steps.{Item, Step, names, lineOp}
 use Rattle.theory.proofs.Deal.{dealOp, gatherOp}
 use Rattle.theory.proofs.Equations.{Kind, line, latest, double, deal, gather, Queues, Variables, Ways, pure, pruns, bindO, total}
 use Rattle.theory.proofs.Equations.{total-names}
 use Rattle.theory.proofs.Denote.{denote, latestOp, doubleOp}
-use Rattle.theory.proofs.Rewrites.{All, none-left, also, first, rest, all-join, all-left, all-right, F-eqb, F-ltb, range, lines}
-use Rattle.theory.proofs.Accept.{bit, bit-one, one-bit, tot, tot-append, tot-at, occ, givesN, readsN, holdsN, Ord, ord-on}
+use Rattle.theory.proofs.Rewrites.{All, none-left, also, first, rest, all-join, all-left, all-right, range, lines, length-range}
+use Rattle.theory.proofs.Accept.{tot, tot-append, tot-at, occ, givesN, readsN, holdsN, Ord, ord-on}
 use Rattle.theory.proofs.Accept.{ord-head, ord-rest, Acc, accepted, not-input}
 use Rattle.theory.proofs.Demand.{Refines}
 use Rattle.theory.proofs.Refine.{reorder-refines, split-refines}
@@ -78,12 +79,12 @@ module _ (I Q p m o : ℕ) (a b : List Step) (pre mid post : List Kind) (acc : A
 occ-below : (q n x : ℕ) → x < q → occ x (range q n) ≡ 0
 unfolding range tot
 occ-below q zero x h = refl
-occ-below q (suc n) x h = rw (F-eqb x q (λ e. omega arith)) (omega (arith, occ-below (suc q) n x (omega arith)))
+occ-below q (suc n) x h = rw (ne-eqb x q (λ e. omega arith)) (omega (arith, occ-below (suc q) n x (omega arith)))
 
 occ-past : (q n x : ℕ) → q + n ≤ x → occ x (range q n) ≡ 0
 unfolding range tot
 occ-past q zero x h = refl
-occ-past q (suc n) x h = rw (F-eqb x q (λ e. omega arith)) (omega (arith, occ-past (suc q) n x (omega arith)))
+occ-past q (suc n) x h = rw (ne-eqb x q (λ e. omega arith)) (omega (arith, occ-past (suc q) n x (omega arith)))
 
 occ-in : (q n x : ℕ) → q ≤ x → x < q + n → occ x (range q n) ≡ 1
 unfolding range tot
@@ -114,18 +115,13 @@ unfolding lines Ways
 ways-lines q r zero ss = none-left
 ways-lines q r (suc n) ss = also {x = line q r ss} tt (ways-lines (suc q) (suc r) n ss)
 
-range-length : (q n : ℕ) → length (range q n) ≡ n
-unfolding range
-range-length q zero = refl
-range-length q (suc n) = ap suc (range-length (suc q) n)
-
 -- lines whose ins lie below their outs and below all that is defined after them
 ord-lines : (q r n : ℕ) (ss : List Step) (tl : List Kind) → q + n ≤ r → ((x : ℕ) → q ≤ x → x < q + n → tot (givesN x) tl ≡ 0) → Ord tl
     → Ord (lines q r n ss ++ tl)
 unfolding lines readsN givesN
 ord-lines q r zero ss tl h z o = o
 ord-lines q r (suc n) ss tl h z o = ord-on {κ = line q r ss} {κs = lines (suc q) (suc r) n ss ++ tl}
-    (λ x g. let e = eqb-true x q (one-bit (eqb x q) g) in let f : bit (eqb x r) ≡ 0 = rw (F-eqb x r (λ k. omega arith)) in
+    (λ x g. let e = eqb-true x q (one-bit (eqb x q) g) in let f : bit (eqb x r) ≡ 0 = rw (ne-eqb x r (λ k. omega arith)) in
     omega (
       arith,
       tot-append (givesN x) (lines (suc q) (suc r) n ss) tl,
@@ -197,11 +193,11 @@ module _ (I Q V′ p o k : ℕ) (ss : List Step) (pre post : List Kind) where
       where
         go : (b : Bool) → ltb p Q ≡ b → p < Q
         go true e = ltb-true p Q e
-        go false e = absurd (omega (arith, acc .reads-out p (ltb-false p Q e), whole-tot (readsN p), bit-one (eqb p p) (eqb-same p p refl)))
+        go false e = absurd (omega (arith, acc .reads-out p (ltb-false p Q e), whole-tot (readsN p), bit-one (eqb p p) (eq-eqb p p refl)))
 
     pub o-low : o < Q
     unfolding givesN
-    o-low = not-input I Q whole acc o (omega (arith, whole-tot (givesN o), bit-one (eqb o o) (eqb-same o o refl))) .1
+    o-low = not-input I Q whole acc o (omega (arith, whole-tot (givesN o), bit-one (eqb o o) (eq-eqb o o refl))) .1
 
     gives-out : (x : ℕ) → Q ≤ x → (tot (givesN x) pre ≡ 0) × (tot (givesN x) post ≡ 0) × (givesN x (line p o ss) ≡ 0)
     gives-out x h = (
@@ -267,8 +263,8 @@ module _ (I Q V′ p o k : ℕ) (ss : List Step) (pre post : List Kind) where
       reads-out = λ x h. omega (arith, reads-more x, ranges-high x h, acc .reads-out x (omega arith));
       calm = λ i. calm i (eqb i V′) refl (eqb i (suc V′)) refl;
       ways =
-          all-join (all-left pre (line p o ss ∷ post) (acc .ways)) (also {x = deal V′ p (range Q k)} (rw (range-length Q k) hk)
-          (all-join (ways-lines Q (Q + k) k ss) (also {x = gather (suc V′) o (range (Q + k) k)} (rw (range-length (Q + k) k) hk)
+          all-join (all-left pre (line p o ss ∷ post) (acc .ways)) (also {x = deal V′ p (range Q k)} (rw (length-range Q k) hk)
+          (all-join (ways-lines Q (Q + k) k ss) (also {x = gather (suc V′) o (range (Q + k) k)} (rw (length-range (Q + k) k) hk)
           (rest (all-right pre (line p o ss ∷ post) (acc .ways))))));
       ord = ord-split;
     }
@@ -276,7 +272,7 @@ module _ (I Q V′ p o k : ℕ) (ss : List Step) (pre post : List Kind) where
         defs : (x : ℕ) → x < Q + (k + k) → (b : Bool) → ltb x Q ≡ b → tot (givesN x) split + bit (ltb x I) ≡ 1
         defs x h true e = let l = ltb-true x Q e in omega (arith, gives-more x, ranges-low x l, acc .defs x l)
         defs x h false e =
-            let l = ltb-false x Q e in let z : bit (ltb x I) ≡ 0 = rw (F-ltb x I (omega (arith, acc .fit))) in
+            let l = ltb-false x Q e in let z : bit (ltb x I) ≡ 0 = rw (le-ltb x I (omega (arith, acc .fit))) in
             omega (arith, gives-more x, ranges x l h, acc .defs-out x l)
 
         reads : (x : ℕ) (b : Bool) → ltb x Q ≡ b → (c : Bool) → ltb x (Q + (k + k)) ≡ c → tot (readsN x) split ≤ 1
@@ -301,7 +297,7 @@ zero-lt Q a h = go (ltb a Q) refl
   where
     go : (b : Bool) → ltb a Q ≡ b → a < Q
     go true e = ltb-true a Q e
-    go false e = absurd (omega (arith, h a (ltb-false a Q e), bit-one (eqb a a) (eqb-same a a refl)))
+    go false e = absurd (omega (arith, h a (ltb-false a Q e), bit-one (eqb a a) (eq-eqb a a refl)))
 
 queue-low : (Q : ℕ) (κ : Kind) → ((x : ℕ) → Q ≤ x → readsN x κ ≡ 0) → ((x : ℕ) → Q ≤ x → givesN x κ ≡ 0) → Queues κ (λ r. r < Q)
 unfolding readsN givesN Queues

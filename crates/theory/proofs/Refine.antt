@@ -9,16 +9,16 @@ use native.Mathlib.Omega.{arith}
 use native.Mathlib.Nat.{zero-add, suc-add}
 use lib.Dec.{eqb, ltb}
 use lib.IntN.{ℤ}
-use borrow.Author.Tests.{eqb-false, ltb-true, ltb-false}
-use Rattle.theory.proofs.Trace.{eqb-same}
+use borrow.Author.Tests.{eqb-false, ltb-true, ltb-false, eq-eqb, lt-ltb, ne-eqb}
+use Rattle.lists.proofs.Tests.{or-first}
 use Rattle.theory.proofs.Steps.{Item, Step, names, lineOp}
 use Rattle.theory.proofs.Deal.{oneOf, dealOp, gatherOp}
 use Rattle.theory.proofs.Equations.{Kind, line, latest, double, deal, gather, Whole, ren, total, pure, pruns, bindO, names-append}
 use Rattle.theory.proofs.Equations.{total-names, pure-names}
 use Rattle.theory.proofs.Denote.{denote, takesFrom, latestOp, doubleOp}
 use Rattle.theory.proofs.Sheets.{holds}
-use Rattle.theory.proofs.Rewrites.{All, Keeps, down, up, fuse-all, fuse-read, readBy, read-append, harvest, harvest-down, T-ltb}
-use Rattle.theory.proofs.Rewrites.{F-eqb, swapped, reorder-all, splitH, splitU, Below, split-all, range, lines}
+use Rattle.theory.proofs.Rewrites.{All, Keeps, down, up, fuse-all, fuse-read, readBy, read-append, harvest, harvest-down}
+use Rattle.theory.proofs.Rewrites.{swapped, reorder-all, splitH, splitU, Below, split-all, range, lines}
 use Rattle.theory.proofs.Demand.{Refines, heldBy, harvest-same}
 
 pub held-append : (xs ys : List Kind) (q : ℕ) → heldBy (xs ++ ys) q ≡ (heldBy xs q || heldBy ys q)
@@ -39,11 +39,6 @@ unfolding heldBy
 held-ren ρ [] k = refl
 held-ren ρ (κ ∷ κs) k = rw (holds-ren ρ κ k, held-ren ρ κs k)
 
-or-swap : (a b c : Bool) → (a || (b || c)) ≡ (b || (a || c))
-or-swap true true c = refl
-or-swap true false c = refl
-or-swap false b c = refl
-
 or-last : (a b c : Bool) → (a || (b || (c || true))) ≡ true
 or-last true b c = refl
 or-last false true c = refl
@@ -62,7 +57,7 @@ module _ (I Q V′ p m o : ℕ) (a b : List Step) (pre mid post : List Kind) whe
       (λ q. H (up m q)),
       u,
       fuse-all p m o a b pre mid post H u ab ba np nq kpre kmid kpost e,
-      (λ q h. rw (T-ltb q m (omega arith))),
+      (λ q h. rw (lt-ltb q m (omega arith))),
       ap (λ (rd : ℕ → Bool). harvest rd (λ q. H (up m q)) (pred Q) 0) (fun-ext (fuse-read p m o a b pre mid post np nq kpre kmid kpost))
           ∙ harvest-down (readBy old) H m (pred Q) 0 m-read (omega arith) (omega arith) ∙ ap (λ (n : ℕ). harvest (readBy old) H n 0) q≡,
       (λ k h. refl),
@@ -78,7 +73,7 @@ module _ (I Q V′ p m o : ℕ) (a b : List Step) (pre mid post : List Kind) whe
 
       m-read : readBy old m ≡ true
       m-read =
-          rw (read-append pre (line p m a ∷ (mid ++ (line m o b ∷ post))) m, read-append mid (line m o b ∷ post) m, eqb-same m m refl)
+          rw (read-append pre (line p m a ∷ (mid ++ (line m o b ∷ post))) m, read-append mid (line m o b ∷ post) m, eq-eqb m m refl)
           (or-last (readBy pre m) (eqb m p) (readBy mid m))
 
       same : (k : ℕ) → heldBy (pre ++ (line p o (a ++ b) ∷ (mid ++ post))) k ≡ heldBy old k
@@ -92,7 +87,7 @@ module _ (I Q V′ p m o : ℕ) (a b : List Step) (pre mid post : List Kind) whe
             names-append a b k,
           )
           (ap (λ (x : Bool). heldBy pre k || x) (or-assoc (names a k) (names b k) (heldBy mid k || heldBy post k)
-          ∙ ap (λ (x : Bool). names a k || x) (or-swap (names b k) (heldBy mid k) (heldBy post k))))
+          ∙ ap (λ (x : Bool). names a k || x) (or-first (names b k) (heldBy mid k) (heldBy post k))))
 
   pub reorder-refines : pure a ≡ true → pure b ≡ true → ((x : Item) → bindO (pruns a x) (pruns b) ≡ bindO (pruns b x) (pruns a))
       → p ≢ m → o ≢ m → I ≤ m
@@ -104,10 +99,10 @@ module _ (I Q V′ p m o : ℕ) (a b : List Step) (pre mid post : List Kind) whe
       swapped p m o a b pre mid post H u,
       u,
       reorder-all p m o a b pre mid post H u pa pb c np nq kpre kmid kpost e,
-      (λ q h. rw (F-eqb q m (λ e. omega arith))),
+      (λ q h. rw (ne-eqb q m (λ e. omega arith))),
       ap (λ (rd : ℕ → Bool). harvest rd (swapped p m o a b pre mid post H u) Q 0) (fun-ext reads)
           ∙ harvest-same (readBy old) (swapped p m o a b pre mid post H u) H Q 0
-          (λ q l h. rw (F-eqb q m (λ e. clash (sym (m-read) ∙ ap (readBy old) (sym e) ∙ h)))),
+          (λ q l h. rw (ne-eqb q m (λ e. clash (sym (m-read) ∙ ap (readBy old) (sym e) ∙ h)))),
       (λ k h. refl),
     );
     named = λ k h.
@@ -136,7 +131,7 @@ module _ (I Q V′ p m o : ℕ) (a b : List Step) (pre mid post : List Kind) whe
 
       m-read : readBy old m ≡ true
       m-read =
-          rw (read-append pre old′ m, read-append mid (line m o b ∷ post) m, eqb-same m m refl)
+          rw (read-append pre old′ m, read-append mid (line m o b ∷ post) m, eq-eqb m m refl)
           (or-last (readBy pre m) (eqb m p) (readBy mid m))
 
       reads : (q : ℕ) → readBy (pre ++ new) q ≡ readBy old q
@@ -166,8 +161,8 @@ harvest-reads rd rd′ H H′ (suc n) q f =
 read-lines : (q r n : ℕ) (ss : List Step) (x : ℕ) → (x < q) ⊎ (q + n ≤ x) → readBy (lines q r n ss) x ≡ false
 unfolding lines readBy takesFrom
 read-lines q r zero ss x h = refl
-read-lines q r (suc n) ss x (inl h) = rw (F-eqb x q (λ e. omega arith), read-lines (suc q) (suc r) n ss x (inl (omega arith)))
-read-lines q r (suc n) ss x (inr h) = rw (F-eqb x q (λ e. omega arith), read-lines (suc q) (suc r) n ss x (inr (omega arith)))
+read-lines q r (suc n) ss x (inl h) = rw (ne-eqb x q (λ e. omega arith), read-lines (suc q) (suc r) n ss x (inl (omega arith)))
+read-lines q r (suc n) ss x (inr h) = rw (ne-eqb x q (λ e. omega arith), read-lines (suc q) (suc r) n ss x (inr (omega arith)))
 
 read-lines-in : (q r n : ℕ) (ss : List Step) (x : ℕ) → q ≤ x → x < q + n → readBy (lines q r n ss) x ≡ true
 unfolding lines readBy takesFrom
@@ -182,7 +177,7 @@ read-lines-in q r (suc n) ss x h l = go (eqb x q) refl (λ h. read-lines-in (suc
 range-out : (q n x : ℕ) → x < q → oneOf x (range q n) ≡ false
 unfolding range
 range-out q zero x h = refl
-range-out q (suc n) x h = rw (F-eqb x q (λ e. omega arith), range-out (suc q) n x (omega arith))
+range-out q (suc n) x h = rw (ne-eqb x q (λ e. omega arith), range-out (suc q) n x (omega arith))
 
 range-in : (q n x : ℕ) → q ≤ x → x < q + n → oneOf x (range q n) ≡ true
 unfolding range
@@ -220,11 +215,11 @@ module _ (I Q V′ p o k : ℕ) (ss : List Step) (pre post : List Kind) (Hx : Wh
       splitH p o k Q V′ ss pre post H u,
       splitU p o k Q V′ ss pre post H u,
       split-all p o k Q V′ ss pre post H u hk t hp ho (below H u .0) (below H u .1) e,
-      (λ q h. rw (T-ltb q Q (omega arith))),
+      (λ q h. rw (lt-ltb q Q (omega arith))),
       harvest-add (readBy new) (splitH p o k Q V′ ss pre post H u) Q (k + k) 0 (λ r h l. fresh-read r (omega arith) (omega arith))
           ∙ harvest-reads (readBy new) (readBy old) (splitH p o k Q V′ ss pre post H u) H Q 0
-          (λ r l. let h : r < Q = omega arith in (old-read r h, rw (T-ltb r Q h))),
-      (λ i h. rw (T-ltb i V′ h)),
+          (λ r l. let h : r < Q = omega arith in (old-read r h, rw (lt-ltb r Q h))),
+      (λ i h. rw (lt-ltb i V′ h)),
     );
     named = λ i h. rw (
       held-append pre tail i,
@@ -232,8 +227,8 @@ module _ (I Q V′ p o k : ℕ) (ss : List Step) (pre post : List Kind) (Hx : Wh
       held-append (lines Q (Q + k) k ss) (gather (suc V′) o (range (Q + k) k) ∷ post) i,
       held-lines Q (Q + k) k ss i t,
       total-names ss i t,
-      F-eqb i V′ (λ e. omega arith),
-      F-eqb i (suc V′) (λ e. omega arith),
+      ne-eqb i V′ (λ e. omega arith),
+      ne-eqb i (suc V′) (λ e. omega arith),
     );
   }
     where

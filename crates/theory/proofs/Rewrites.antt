@@ -9,8 +9,7 @@ use native.Mathlib.Omega.{arith}
 use lib.ListN.{length, getD}
 use lib.Dec.{eqb, ltb}
 use lib.IntN.{ℤ, pos}
-use borrow.Author.Tests.{eqb-true, eqb-false, ltb-true, ltb-false, lt-ltb, le-ltb}
-use Rattle.theory.proofs.Trace.{eqb-same}
+use borrow.Author.Tests.{eqb-true, eqb-false, ltb-true, ltb-false, lt-ltb, le-ltb, eq-eqb, ne-eqb}
 use Rattle.theory.proofs.Steps.{Item, Step, names, lout}
 use Rattle.theory.proofs.Deal.{dealt, turn, oneOf}
 use Rattle.theory.proofs.Equations.{Kind, line, latest, double, deal, gather, nought, Whole, Eq, Queues, Variables, Ways, ren}
@@ -66,18 +65,12 @@ down m q = cond (ltb q m) q (pred q)
 abbrev pub up : ℕ → ℕ → ℕ
 up m q = cond (ltb q m) q (suc q)
 
-pub T-ltb : (a b : ℕ) → a < b → ltb a b ≡ true
-T-ltb a b h = lt-ltb a b h
-
-pub F-ltb : (a b : ℕ) → b ≤ a → ltb a b ≡ false
-F-ltb a b h = le-ltb a b h
-
 pub up-down : (m q : ℕ) → q ≢ m → up m (down m q) ≡ q
 up-down m q n = go (ltb q m) refl
   where
     go : (b : Bool) → ltb q m ≡ b → up m (cond b q (pred q)) ≡ q
     go true e = rw e
-    go false e = let l = ltb-false q m e in let z : suc (pred q) ≡ q = omega arith in rw (F-ltb (pred q) m (omega arith)) z
+    go false e = let l = ltb-false q m e in let z : suc (pred q) ≡ q = omega arith in rw (le-ltb (pred q) m (omega arith)) z
 
 abbrev pub Keeps : ℕ → Kind → Type 0
 Keeps m κ = Ways κ × Queues κ (λ r. r ≢ m)
@@ -143,7 +136,7 @@ down-up m q = go (ltb q m) refl
   where
     go : (b : Bool) → ltb q m ≡ b → down m (cond b q (suc q)) ≡ q
     go true e = rw e
-    go false e = let l = ltb-false q m e in let z : pred (suc q) ≡ q = omega arith in rw (F-ltb (suc q) m (omega arith)) z
+    go false e = let l = ltb-false q m e in let z : pred (suc q) ≡ q = omega arith in rw (le-ltb (suc q) m (omega arith)) z
 
 pub up-ne : (m q : ℕ) → up m q ≢ m
 up-ne m q = go (ltb q m) refl
@@ -181,13 +174,6 @@ unfolding readBy
 read-down m q none-left = refl
 read-down m q (also {x = κ} k a) = rw (takes-down m κ q k, read-down m q a)
 
-pub F-eqb : (a b : ℕ) → a ≢ b → eqb a b ≡ false
-F-eqb a b n = go (eqb a b) refl
-  where
-    go : (t : Bool) → eqb a b ≡ t → t ≡ false
-    go true e = absurd (n (eqb-true a b e))
-    go false e = refl
-
 -- the contents of the queues that nothing reads, by number, n of them from q on
 unfoldable pub harvest : (ℕ → Bool) → Whole → ℕ → ℕ → List (List Item)
 harvest rd H zero q = []
@@ -196,7 +182,7 @@ harvest rd H (suc n) q = cond (rd q) (harvest rd H n (suc q)) (H q ∷ harvest r
 harvest-past : (rd : ℕ → Bool) (H : Whole) (m n q : ℕ) → m ≤ q → harvest (λ q. rd (up m q)) (λ q. H (up m q)) n q ≡ harvest rd H n (suc q)
 unfolding harvest
 harvest-past rd H m zero q h = refl
-harvest-past rd H m (suc n) q h = rw (F-ltb q m h, harvest-past rd H m n (suc q) (omega arith))
+harvest-past rd H m (suc n) q h = rw (le-ltb q m h, harvest-past rd H m n (suc q) (omega arith))
 
 pub harvest-down : (rd : ℕ → Bool) (H : Whole) (m n q : ℕ) → rd m ≡ true → q ≤ m → m ≤ q + n
     → harvest (λ q. rd (up m q)) (λ q. H (up m q)) n q ≡ harvest rd H (suc n) q
@@ -214,7 +200,7 @@ harvest-down rd H m (suc n) q r h l = go (eqb q m) refl (λ h l. harvest-down rd
         harvest-past rd H m (suc n) q (omega arith) ∙ sym y
     go false e ih =
         let k : q ≢ m = eqb-false q m e in
-        rw (T-ltb q m (omega arith), ih (omega arith) (omega arith))
+        rw (lt-ltb q m (omega arith), ih (omega arith) (omega arith))
 
 -- fuse: the outputs hold the same, in number order
 module _ (p m o : ℕ) (a b : List Step) (pre mid post : List Kind) where
@@ -231,7 +217,7 @@ module _ (p m o : ℕ) (a b : List Step) (pre mid post : List Kind) where
         read-append pre (line p m a ∷ (mid ++ (line m o b ∷ post))) (up m q),
         read-append mid
             (line m o b ∷ post) (up m q),
-        F-eqb (up m q) m (up-ne m q),
+        ne-eqb (up m q) m (up-ne m q),
       )
 
 -- reorder and split keep the old queue numbers
@@ -260,7 +246,7 @@ module _ (p m o : ℕ) (a b : List Step) (pre mid post : List Kind) (H : Whole) 
   swapped q = cond (eqb q m) (lout b nought (H p)) (H q)
 
   elsewhere : (q : ℕ) → q ≢ m → swapped q ≡ H q
-  elsewhere q n = rw (F-eqb q m n)
+  elsewhere q n = rw (ne-eqb q m n)
 
   pub reorder-all : pure a ≡ true → pure b ≡ true → ((x : Item) → bindO (pruns a x) (pruns b) ≡ bindO (pruns b x) (pruns a)) → p ≢ m → o ≢ m
       → All (Keeps m) pre → All (Keeps m) mid → All (Keeps m) post
@@ -272,7 +258,7 @@ module _ (p m o : ℕ) (a b : List Step) (pre mid post : List Kind) (H : Whole) 
       let e₁ = all-both kpre (all-left pre (line p m a ∷ (mid ++ (line m o b ∷ post))) e) in
       let e₂ = all-both kmid (all-left mid (line m o b ∷ post) (rest r₁)) in
       let e₃ = all-both kpost (rest r₂) in
-      let z : swapped m ≡ lout b nought (H p) = rw (eqb-same m m refl) in
+      let z : swapped m ≡ lout b nought (H p) = rw (eq-eqb m m refl) in
       let l = reorder-eq p m o a b H swapped u pa pb c (elsewhere p np) (elsewhere o nq) z (first r₁) (first r₂) in
       all-join (old e₁) (also (l .0) (all-join (old e₂) (also (l .1) (old e₃))))
     where
@@ -286,7 +272,7 @@ unfoldable pub range : ℕ → ℕ → List ℕ
 range q zero = []
 range q (suc n) = q ∷ range (suc q) n
 
-length-range : (q n : ℕ) → length (range q n) ≡ n
+pub length-range : (q n : ℕ) → length (range q n) ≡ n
 unfolding range
 length-range q zero = refl
 length-range q (suc n) = ap suc (length-range (suc q) n)
@@ -324,14 +310,14 @@ module _ (p o k : ℕ) (Q V′ : ℕ) (ss : List Step) (pre post : List Kind) (H
   splitted = pre ++ (deal V′ p (range Q k) ∷ (lines Q (Q + k) k ss ++ (gather (suc V′) o (range (Q + k) k) ∷ post)))
 
   low : (q : ℕ) → q < Q → splitH q ≡ H q
-  low q h = rw (T-ltb q Q h)
+  low q h = rw (lt-ltb q Q h)
 
   middle : (j : ℕ) → j < k → splitH (Q + j) ≡ dealing j
-  middle j h = let e : Q + j - Q ≡ j = omega arith in rw (F-ltb (Q + j) Q (omega arith), T-ltb (Q + j) (Q + k) (omega arith), e)
+  middle j h = let e : Q + j - Q ≡ j = omega arith in rw (le-ltb (Q + j) Q (omega arith), lt-ltb (Q + j) (Q + k) (omega arith), e)
 
   high : (j : ℕ) → j < k → splitH (Q + k + j) ≡ map (image ss) (dealing j)
   high j h =
-      let e : Q + k + j - (Q + k) ≡ j = omega arith in rw (F-ltb (Q + k + j) Q (omega arith), F-ltb (Q + k + j) (Q + k) (omega arith), e)
+      let e : Q + k + j - (Q + k) ≡ j = omega arith in rw (le-ltb (Q + k + j) Q (omega arith), le-ltb (Q + k + j) (Q + k) (omega arith), e)
 
   abbrev pub Below : Kind → Type 0
   Below κ = Ways κ × Queues κ (λ r. r < Q) × Variables κ (λ i. i < V′)
@@ -379,7 +365,7 @@ module _ (p o k : ℕ) (Q V′ : ℕ) (ss : List Step) (pre post : List Kind) (H
           ∙ ap (λ (n : ℕ). map (image ss) (dealt n j 0 (H p))) (sym n)
 
       turned : (i : ℕ) → V′ ≤ i → splitU i ≡ pos (turn (length os) 0 (H p))
-      turned i h = rw (F-ltb i V′ h) (ap (λ (n : ℕ). pos (turn n 0 (H p))) (sym n))
+      turned i h = rw (le-ltb i V′ h) (ap (λ (n : ℕ). pos (turn n 0 (H p))) (sym n))
 
       uc : splitU V′ ≡ pos (turn (length os) 0 (H p))
       uc = turned V′ (omega arith)
@@ -391,4 +377,4 @@ module _ (p o k : ℕ) (Q V′ : ℕ) (ss : List Step) (pre post : List Kind) (H
       old e =
           all-imp (λ κ h. eq-frame κ H splitH u splitU (h .0 .0)
           (queues-map κ (λ r. r < Q) (λ r. splitH r ≡ H r) (λ r l. low r l) (h .0 .1))
-          (vars-map κ (λ i. i < V′) (λ i. splitU i ≡ u i) (λ i l. rw (T-ltb i V′ l)) (h .0 .2)) (h .1)) e
+          (vars-map κ (λ i. i < V′) (λ i. splitU i ≡ u i) (λ i l. rw (lt-ltb i V′ l)) (h .0 .2)) (h .1)) e

@@ -8,11 +8,13 @@ use Prim.Native.Nat.{ℕ, zero, suc, _+_, _≤_, _<_}
 use native.Mathlib.Omega.{arith}
 use lib.Dec.{ltb}
 use borrow.Author.Tests.{ltb-true}
+use Rattle.lists.specs.Lists.{bit}
+use Rattle.lists.proofs.Bits.{bit-one}
 use Rattle.theory.proofs.Equations.{Kind, Ways}
 use Rattle.theory.proofs.Denote.{takesFrom}
 use Rattle.theory.proofs.Sheets.{gives}
 use Rattle.theory.proofs.Rewrites.{All, none-left, also}
-use Rattle.theory.proofs.Accept.{bit, bit-one, tot, givesN, readsN, holdsN, Ord, ord-end, ord-on, Acc, gives-one, not-gives}
+use Rattle.theory.proofs.Accept.{tot, givesN, readsN, holdsN, Ord, ord-end, ord-on, Acc, gives-one, not-gives}
 use Rattle.theory.proofs.Accept.{not-reads, reads-one}
 
 pub record Passes (Q : ℕ) (d r : ℕ → Bool) (κ : Kind) : Type 0 where

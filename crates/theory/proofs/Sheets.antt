@@ -9,12 +9,13 @@ use native.Mathlib.Omega.{arith}
 use lib.ListN.{length, length-map, getD, List·getD-map, List·getD-eq-default}
 use lib.Dec.{eqb, ltb}
 use lib.IntN.{ℤ}
-use borrow.Author.Tests.{eqb-false, ltb-true, ltb-false}
+use borrow.Author.Tests.{eqb-false, ltb-true, ltb-false, eq-eqb}
+use Rattle.lists.proofs.Places.{getD-any}
 use Rattle.theory.proofs.Model.{Op, Local}
-use Rattle.theory.proofs.Trace.{eqb-same, OpSol}
+use Rattle.theory.proofs.Trace.{OpSol}
 use Rattle.theory.proofs.Steps.{Item, lineOp}
 use Rattle.theory.proofs.Kahn.{Sheet, Sol}
-use Rattle.theory.proofs.Deal.{natOf, oneOf, one-of, getD-else, dealOp, gatherOp}
+use Rattle.theory.proofs.Deal.{natOf, oneOf, one-of, dealOp, gatherOp}
 use Rattle.theory.proofs.Equations.{Kind, line, latest, double, deal, gather, nought, Whole, Eq}
 use Rattle.theory.proofs.Denote.{denote, kind-local, takesFrom, Good, sol-eq, eq-sol, latestOp, doubleOp}
 
@@ -107,7 +108,7 @@ abbrev pub opAt : List Kind → ℕ → Op Item ℤ
 opAt ops i = getD (map denote ops) i emptyOp
 
 pub op-at : (ops : List Kind) (i : ℕ) → i < length ops → opAt ops i ≡ denote (getD ops i blank)
-op-at ops i h = getD-else (map denote ops) i emptyOp (denote blank) (rw (length-map ops denote) h) ∙ List·getD-map denote ops i blank
+op-at ops i h = getD-any (map denote ops) i emptyOp (denote blank) (rw (length-map ops denote) h) ∙ List·getD-map denote ops i blank
 
 pub op-past : (ops : List Kind) (i : ℕ) → length ops ≤ i → opAt ops i ≡ emptyOp
 op-past ops i h = List·getD-eq-default (map denote ops) emptyOp (rw (length-map ops denote) h)
@@ -133,15 +134,15 @@ empty-own k = refl
 
 pub sel-takes : (κ : Kind) → Good κ → (v : ℕ → ℤ) → takesFrom κ (denote κ .sel v) ≡ true
 unfolding takesFrom Good denote lineOp latestOp doubleOp dealOp gatherOp
-sel-takes (line p o ss) g v = eqb-same p p refl
-sel-takes (latest p k f) g v = eqb-same p p refl
-sel-takes (double p o o′) g v = eqb-same p p refl
-sel-takes (deal c p os) g v = eqb-same p p refl
+sel-takes (line p o ss) g v = eq-eqb p p refl
+sel-takes (latest p k f) g v = eq-eqb p p refl
+sel-takes (double p o o′) g v = eq-eqb p p refl
+sel-takes (deal c p os) g v = eq-eqb p p refl
 sel-takes (gather c o is) g v = go (ltb (natOf (v c)) (length is)) refl
   where
     go : (b : Bool) → ltb (natOf (v c)) (length is) ≡ b → oneOf (getD is (natOf (v c)) (getD is 0 0)) is ≡ true
     go true e =
-        let l = ltb-true (natOf (v c)) (length is) e in rw (getD-else is (natOf (v c)) (getD is 0 0) 0 l) (one-of is (natOf (v c)) l)
+        let l = ltb-true (natOf (v c)) (length is) e in rw (getD-any is (natOf (v c)) (getD is 0 0) 0 l) (one-of is (natOf (v c)) l)
     go false e = rw (List·getD-eq-default is (getD is 0 0) (ltb-false (natOf (v c)) (length is) e)) (one-of is 0 (g .0))
 
 module _ (I Q : ℕ) (ops : List Kind) (acc : Accepted I Q ops) where

@@ -5,14 +5,15 @@ use mathlib.Core.Bool.{Bool, true, false, cond, _&&_, _||_}
 use mathlib.Core.Option.{Option, some, none}
 use mathlib.Core.List.{List, [], _∷_, _++_}
 use Prim.Native.Nat.{ℕ}
-use native.Mathlib.Omega.{arith}
 use lib.ListN.{getD, set}
 use lib.Dec.{eqb}
 use lib.IntN.{ℤ, pos}
 use lib.Signed.{leZ}
+use borrow.Author.Tests.{eq-eqb}
+use Rattle.lists.proofs.Tests.{or-left, or-right, neither}
 use Rattle.effect.specs.Flow.{addOf, countOf}
 use Rattle.theory.proofs.Model.{Op, Local}
-use Rattle.theory.proofs.Trace.{eqb-same, cons?, tv, tput, ttake}
+use Rattle.theory.proofs.Trace.{cons?, tv, tput, ttake}
 
 abbrev pub Item : Type 0
 Item = List ℤ
@@ -91,39 +92,23 @@ unfolding one
 one-item (keep p lo hi) x v w h = refl
 one-item (add p lo) x v w h = refl
 one-item (copy p r) x v w h = refl
-one-item (count k p) x v w h = rw (h k (eqb-same k k refl))
-one-item (stamp k p) x v w h = rw (h k (eqb-same k k refl))
+one-item (count k p) x v w h = rw (h k (eq-eqb k k refl))
+one-item (stamp k p) x v w h = rw (h k (eq-eqb k k refl))
 
 pub one-vars : (s : Step) (x : Item) (v w : ℕ → ℤ) (i : ℕ) → Alike (named s) v w → v i ≡ w i → one s x v .1 i ≡ one s x w .1 i
 unfolding one
 one-vars (keep p lo hi) x v w i h e = e
 one-vars (add p lo) x v w i h e = e
 one-vars (copy p r) x v w i h e = e
-one-vars (count k p) x v w i h e = rw (h k (eqb-same k k refl), e)
+one-vars (count k p) x v w i h e = rw (h k (eq-eqb k k refl), e)
 one-vars (stamp k p) x v w i h e = e
-
-or-left : (a b : Bool) → a ≡ true → (a || b) ≡ true
-or-left true b h = refl
-or-left false b h = let z : _≡_ {A = ℕ} 0 1 = cc in absurd (omega arith)
-
-or-right : (a b : Bool) → b ≡ true → (a || b) ≡ true
-or-right true b h = refl
-or-right false b h = h
-
-nor-left : (a b : Bool) → (a || b) ≡ false → a ≡ false
-nor-left true b h = h
-nor-left false b h = refl
-
-nor-right : (a b : Bool) → (a || b) ≡ false → b ≡ false
-nor-right true b h = let z : _≡_ {A = ℕ} 0 1 = cc in absurd (omega arith)
-nor-right false b h = h
 
 pub runs-frame : (ss : List Step) (x : Item) (v : ℕ → ℤ) (i : ℕ) → names ss i ≡ false → runs ss x v .1 i ≡ v i
 unfolding runs names
 runs-frame [] x v i h = refl
 runs-frame (s ∷ ss) x v i h =
-    go (one s x v .0) (one s x v .1) (one-frame s x v i (nor-left (named s i) (names ss i) h))
-    (λ y w. runs-frame ss y w i (nor-right (named s i) (names ss i) h))
+    go (one s x v .0) (one s x v .1) (one-frame s x v i (neither (named s i) (names ss i) h .0))
+    (λ y w. runs-frame ss y w i (neither (named s i) (names ss i) h .1))
   where
     go : (o : Option Item) (w : ℕ → ℤ) → w i ≡ v i → ((y : Item) (w : ℕ → ℤ) → runs ss y w .1 i ≡ w i)
         → then o w (λ y w. runs ss y w) .1 i ≡ v i
@@ -193,7 +178,7 @@ lvars ss v (x ∷ xs) = lvars ss (runs ss x v .1) xs
 pub line-put : (p o : ℕ) (ss : List Step) (v : ℕ → ℤ) (xs : List Item) → tput (lineOp p o ss) v o xs ≡ lout ss v xs
 unfolding lineOp tput lout
 line-put p o ss v [] = refl
-line-put p o ss v (x ∷ xs) = rw (eqb-same o o refl) (ap (cons? (runs ss x v .0)) (line-put p o ss (runs ss x v .1) xs))
+line-put p o ss v (x ∷ xs) = rw (eq-eqb o o refl) (ap (cons? (runs ss x v .0)) (line-put p o ss (runs ss x v .1) xs))
 
 pub line-var : (p o : ℕ) (ss : List Step) (v : ℕ → ℤ) (xs : List Item) → tv (lineOp p o ss) v xs ≡ lvars ss v xs
 unfolding lineOp tv lvars
@@ -203,7 +188,7 @@ line-var p o ss v (x ∷ xs) = line-var p o ss (runs ss x v .1) xs
 pub line-take : (p o : ℕ) (ss : List Step) (v : ℕ → ℤ) (xs : List Item) → ttake (lineOp p o ss) v p xs ≡ xs
 unfolding lineOp ttake
 line-take p o ss v [] = refl
-line-take p o ss v (x ∷ xs) = rw (eqb-same p p refl) (ap (λ (l : List Item). x ∷ l) (line-take p o ss (runs ss x v .1) xs))
+line-take p o ss v (x ∷ xs) = rw (eq-eqb p p refl) (ap (λ (l : List Item). x ∷ l) (line-take p o ss (runs ss x v .1) xs))
 
 -- fuse: two lines one after the other are the line of both step lists
 module _ (a b : List Step) (ab : (i : ℕ) → names a i ≡ true → names b i ≡ false) (ba : (i : ℕ) → names b i ≡ true → names a i ≡ false) where

@@ -7,15 +7,8 @@ use mathlib.Core.List.{List, [], _∷_, _++_, head?, append-assoc, append-nil}
 use Prim.Native.Nat.{ℕ}
 use native.Mathlib.Omega.{arith}
 use lib.Dec.{eqb}
-use borrow.Author.Tests.{eqb-false}
+use borrow.Author.Tests.{eq-eqb}
 use Rattle.theory.proofs.Model.{Op, Vars, push, pop}
-
-pub eqb-same : (a b : ℕ) → a ≡ b → eqb a b ≡ true
-eqb-same a b e = go (eqb a b) refl
-  where
-    go : (t : Bool) → eqb a b ≡ t → t ≡ true
-    go true h = refl
-    go false h = absurd (eqb-false a b h e)
 
 module _ {Item : Type 0} where
   abbrev pub mark : Bool → Item → Option Item
@@ -99,7 +92,7 @@ module _ {Item Val : Type 0} (o : Op Item Val) (R : ℕ → Type 0) (within : (v
 
   ttake-here : (v : Vars Item Val) (x : Item) (xs : List Item) → ttake o v (o .sel v) (x ∷ xs) ≡ x ∷ ttake o (o .next x v) (o .sel v) xs
   unfolding ttake
-  ttake-here v x xs = rw (eqb-same (o .sel v) (o .sel v) refl)
+  ttake-here v x xs = rw (eq-eqb (o .sel v) (o .sel v) refl)
 
   fits-tail : (v : Vars Item Val) (H : ℕ → List Item) (x : Item) (xs : List Item) → Fits o R v H (x ∷ xs)
       → Fits o R (o .next x v) (λ p. pop (eqb p (o .sel v)) (H p)) xs

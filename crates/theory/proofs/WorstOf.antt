@@ -7,13 +7,14 @@ use Prim.Native.Nat.{ℕ, zero, suc, _+_, _-_, _/_, _≤_, _<_}
 use native.Mathlib.Omega.{arith}
 use lib.ListN.{length, getD}
 use lib.Dec.{eqb}
-use Rattle.theory.proofs.Trace.{eqb-same}
+use borrow.Author.Tests.{eq-eqb}
+use Rattle.lists.proofs.Bits.{bit-false, bit-one}
 use Rattle.theory.proofs.Kahn.{sum}
 use Rattle.theory.proofs.Deal.{oneOf, one-of}
 use Rattle.theory.proofs.Equations.{Kind, line, latest, double, deal, gather, Queues, Ways}
 use Rattle.theory.proofs.Counts.{WEq, rounded-up}
 use Rattle.theory.proofs.Rewrites.{All, none-left, also, first, rest}
-use Rattle.theory.proofs.Accept.{bit, bit-one, tot, occ, givesN, readsN, Ord, ord-head, ord-rest, occ-one}
+use Rattle.theory.proofs.Accept.{tot, occ, givesN, readsN, Ord, ord-head, ord-rest, occ-one}
 
 abbrev pub upn : ℕ → ℕ → (ℕ → ℕ) → ℕ → ℕ
 upn o n W q = cond (eqb q o) n (W q)
@@ -28,10 +29,6 @@ wput (gather c o is) W = upn o (sum (length is) (λ j. W (getD is j 0))) W
 unfoldable pub worstOf : (ℕ → ℕ) → List Kind → ℕ → ℕ
 worstOf W [] = W
 worstOf W (κ ∷ κs) = worstOf (wput κ W) κs
-
-bit-false : (b : Bool) → bit b ≡ 0 → b ≡ false
-bit-false true h = absurd (omega arith)
-bit-false false h = refl
 
 occ-false : (q : ℕ) (l : List ℕ) → occ q l ≡ 0 → oneOf q l ≡ false
 occ-false q l h = go (oneOf q l) refl
@@ -55,18 +52,18 @@ worst-frame (κ ∷ κs) W q h = worst-frame κs (wput κ W) q (omega arith) ∙
 
 queue-all : (κ : Kind) (P : ℕ → Type 0) → ((r : ℕ) → 1 ≤ readsN r κ → P r) → ((r : ℕ) → 1 ≤ givesN r κ → P r) → Queues κ P
 unfolding Queues readsN givesN
-queue-all (line p o ss) P f g = (f p (bit-one (eqb p p) (eqb-same p p refl)), g o (bit-one (eqb o o) (eqb-same o o refl)))
-queue-all (latest p k h) P f g = f p (bit-one (eqb p p) (eqb-same p p refl))
+queue-all (line p o ss) P f g = (f p (bit-one (eqb p p) (eq-eqb p p refl)), g o (bit-one (eqb o o) (eq-eqb o o refl)))
+queue-all (latest p k h) P f g = f p (bit-one (eqb p p) (eq-eqb p p refl))
 queue-all (double p o o′) P f g = (
-  f p (bit-one (eqb p p) (eqb-same p p refl)),
-  g o (omega (arith, bit-one (eqb o o) (eqb-same o o refl))),
+  f p (bit-one (eqb p p) (eq-eqb p p refl)),
+  g o (omega (arith, bit-one (eqb o o) (eq-eqb o o refl))),
   g o′
-      (omega (arith, bit-one (eqb o′ o′) (eqb-same o′ o′ refl))),
+      (omega (arith, bit-one (eqb o′ o′) (eq-eqb o′ o′ refl))),
 )
 queue-all (deal c p os) P f g =
-    (f p (bit-one (eqb p p) (eqb-same p p refl)), λ j h. g (getD os j 0) (occ-one (getD os j 0) os (one-of os j h)))
+    (f p (bit-one (eqb p p) (eq-eqb p p refl)), λ j h. g (getD os j 0) (occ-one (getD os j 0) os (one-of os j h)))
 queue-all (gather c o is) P f g =
-    (g o (bit-one (eqb o o) (eqb-same o o refl)), λ j h. f (getD is j 0) (occ-one (getD is j 0) is (one-of is j h)))
+    (g o (bit-one (eqb o o) (eq-eqb o o refl)), λ j h. f (getD is j 0) (occ-one (getD is j 0) is (one-of is j h)))
 
 sum-ext : (n : ℕ) (f g : ℕ → ℕ) → ((k : ℕ) → k < n → f k ≡ g k) → sum n f ≡ sum n g
 unfolding sum
@@ -75,21 +72,21 @@ sum-ext (suc n) f g h = rw (h n (omega arith), sum-ext n f g (λ k l. h k (omega
 
 weq-own : (κ : Kind) (W : ℕ → ℕ) → Ways κ → ((q : ℕ) → 1 ≤ readsN q κ → givesN q κ ≡ 0) → WEq κ (wput κ W)
 unfolding WEq wput readsN givesN Ways
-weq-own (line p o ss) W w h = rw (eqb-same o o refl, bit-false (eqb p o) (h p (bit-one (eqb p p) (eqb-same p p refl))))
+weq-own (line p o ss) W w h = rw (eq-eqb o o refl, bit-false (eqb p o) (h p (bit-one (eqb p p) (eq-eqb p p refl))))
 weq-own (latest p k f) W w h = tt
 weq-own (double p o o′) W w h =
-    let z = h p (bit-one (eqb p p) (eqb-same p p refl)) in (
-      rw (eqb-same o o refl, bit-false (eqb p o) (omega arith), bit-false (eqb p o′) (omega arith)),
-      rw (bit-false (eqb p o) (omega arith), bit-false (eqb p o′) (omega arith), eqb-same o′ o′ refl) (go (eqb o′ o)),
+    let z = h p (bit-one (eqb p p) (eq-eqb p p refl)) in (
+      rw (eq-eqb o o refl, bit-false (eqb p o) (omega arith), bit-false (eqb p o′) (omega arith)),
+      rw (bit-false (eqb p o) (omega arith), bit-false (eqb p o′) (omega arith), eq-eqb o′ o′ refl) (go (eqb o′ o)),
     )
   where
     go : (b : Bool) → cond (b || true) (W p) (W o′) ≡ W p
     go true = refl
     go false = refl
 weq-own (deal c p os) W w h = λ j l.
-    rw (occ-false p os (h p (bit-one (eqb p p) (eqb-same p p refl))), one-of os j l) (rounded-up (W p) (length os) j w l)
+    rw (occ-false p os (h p (bit-one (eqb p p) (eq-eqb p p refl))), one-of os j l) (rounded-up (W p) (length os) j w l)
 weq-own (gather c o is) W w h =
-    rw (eqb-same o o refl) (sum-ext (length is) (λ j. W (getD is j 0)) (λ j. upn o (sum (length is) (λ j. W (getD is j 0))) W (getD is j 0))
+    rw (eq-eqb o o refl) (sum-ext (length is) (λ j. W (getD is j 0)) (λ j. upn o (sum (length is) (λ j. W (getD is j 0))) W (getD is j 0))
     (λ j l. rw (bit-false (eqb (getD is j 0) o) (h (getD is j 0) (occ-one (getD is j 0) is (one-of is j l))))))
 
 weq-same : (κ : Kind) (W W′ : ℕ → ℕ) → Queues κ (λ r. W′ r ≡ W r) → WEq κ W → WEq κ W′

@@ -3,7 +3,8 @@
 use mathlib.Core.Path.{refl, ap, sym, _∙_}
 use lib.Seq.{length-take-le}
 use Rattle.sheet.specs.Answer.{paper}
-use Rattle.codec.proofs.RoundTrip.{held-sheet, length-in-buffer, again-done, again-refused}
+use Rattle.sheet.proofs.InMemory.{held-sheet}
+use Rattle.codec.proofs.RoundTrip.{length-in-buffer, again-done, again-refused}
 use borrow.Author.Needs.{needs}
 use Rattle.codec.proofs.again.Statement.{statement}
 use Rattle.codec.proofs.again.Tie as tie

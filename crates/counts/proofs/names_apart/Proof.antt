@@ -8,14 +8,15 @@ use lib.ListN.{replicate}
 use borrow.Author.Needs.{needs}
 use borrow.Author.Tests.{not-true, not-false}
 use Rattle.lists.specs.Lists.{all, member, has}
+use Rattle.lists.proofs.Rest.{rest, rest-all, rest-none}
+use Rattle.lists.proofs.Flags.{has-none}
 use Rattle.operator.specs.Op.{Op, names}
 use Rattle.operator.specs.Memory.{view}
-use Rattle.judge.proofs.Loops.{has-none}
 use Rattle.sheet.specs.Sheet.{opAt, viewSheet}
 use Rattle.sheet.specs.declared.Sheet.{Sheet}
+use Rattle.sheet.proofs.Accepted.{ranges-of-accepted}
 use Rattle.counts.specs.Calm.{calmFrom, isCalm}
-use Rattle.counts.proofs.OfAccepted.{head-ranges, operator-ready, names-have-flags}
-use Rattle.counts.proofs.Rest.{rest, rest-all, rest-none}
+use Rattle.counts.proofs.OfAccepted.{operator-ready, names-have-flags}
 use Rattle.counts.proofs.Turns.{calm-turn, calm-stop}
 use Rattle.counts.proofs.names_apart.Statement.{statement}
 use Rattle.counts.proofs.names_apart.Tie as tie
@@ -54,10 +55,10 @@ loop-holds : tie.Need-loop-holds Inv-loop μ-loop
 loop-holds c = (omega arith, start (c .args .t1))
 
 mul-o : tie.Need-mul-o Inv-loop μ-loop
-mul-o c = let b = c .before .before in omega (arith, head-ranges (b .args .t1) (b .pre))
+mul-o c = let b = c .before .before in omega (arith, ranges-of-accepted (b .args .t1) (b .pre))
 
 element-copy-out-o : tie.Need-element-copy-out-o Inv-loop μ-loop
-element-copy-out-o c = let b = c .before .before in omega (arith, head-ranges (b .args .t1) (b .pre))
+element-copy-out-o c = let b = c .before .before in omega (arith, ranges-of-accepted (b .args .t1) (b .pre))
 
 names-apart-requires : tie.Need-names-apart-requires Inv-loop μ-loop
 names-apart-requires c κs =

@@ -10,7 +10,7 @@ use Rattle.lists.proofs.Build.{build-length, never'}
 use Rattle.operator.specs.Memory.{isEmpty, ways, viewAs, view, Ready}
 use Rattle.operator.specs.declared.Kind.the-variants.{Empty, Line, Latest, Double, Deal, Gather}
 use Rattle.operator.specs.declared.Operator.{Operator}
-use Rattle.judge.proofs.Shapes.{by-kind}
+use Rattle.operator.proofs.ViewLaws.{by-kind}
 use Rattle.counts.specs.Worst.{dealt, worstOp}
 use Rattle.counts.proofs.operator_counts.Statement.{statement}
 use Rattle.counts.proofs.operator_counts.Tie as tie

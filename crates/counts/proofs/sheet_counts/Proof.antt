@@ -6,15 +6,16 @@ use Prim.Native.Nat.{ℕ, _+_, _-_, _<_, _≤_, _^_}
 use native.Mathlib.Numerals.{add-one}
 use native.Mathlib.Omega.{arith}
 use borrow.Author.Needs.{needs}
+use Rattle.lists.proofs.Rest.{rest, rest-all, rest-none}
 use Rattle.operator.specs.Op.{Op}
 use Rattle.operator.specs.Memory.{view}
 use Rattle.operator.proofs.ViewLaws.{Small}
 use Rattle.sheet.specs.Sheet.{opAt, viewSheet}
 use Rattle.sheet.specs.declared.Sheet.{Sheet}
+use Rattle.sheet.proofs.Accepted.{ranges-of-accepted}
 use Rattle.counts.specs.Worst.{worstOp, worstFrom}
 use Rattle.counts.proofs.Bounds.{Within, within-more, within-worst, bound, bound-most}
-use Rattle.counts.proofs.OfAccepted.{head-ranges, operator-ready, operator-small}
-use Rattle.counts.proofs.Rest.{rest, rest-all, rest-none}
+use Rattle.counts.proofs.OfAccepted.{operator-ready, operator-small}
 use Rattle.counts.proofs.Turns.{worst-turn}
 use Rattle.counts.proofs.sheet_counts.Statement.{statement}
 use Rattle.counts.proofs.sheet_counts.Tie as tie
@@ -51,10 +52,10 @@ loop-holds : tie.Need-loop-holds Inv-loop μ-loop
 loop-holds c = (omega arith, start (c .args .t1) (c .args .fed), c .pre .1)
 
 mul-o : tie.Need-mul-o Inv-loop μ-loop
-mul-o c = let b = c .before .before in omega (arith, head-ranges (b .args .t1) (b .pre .0))
+mul-o c = let b = c .before .before in omega (arith, ranges-of-accepted (b .args .t1) (b .pre .0))
 
 element-copy-out-o : tie.Need-element-copy-out-o Inv-loop μ-loop
-element-copy-out-o c = let b = c .before .before in omega (arith, head-ranges (b .args .t1) (b .pre .0))
+element-copy-out-o c = let b = c .before .before in omega (arith, ranges-of-accepted (b .args .t1) (b .pre .0))
 
 operator-counts-requires : tie.Need-operator-counts-requires Inv-loop μ-loop
 operator-counts-requires c κs =
@@ -62,7 +63,7 @@ operator-counts-requires c κs =
     let b = l .before in
     let i = l .loop .i in (
       operator-ready (b .args .t1) (b .pre .0) i (c .before .loop-test .taken),
-      within-more (bound i) (2 ^ 60) (l .loop .w) (bound-most i (omega (arith, head-ranges (b .args .t1) (b .pre .0)))) (l .loop .inv .2),
+      within-more (bound i) (2 ^ 60) (l .loop .w) (bound-most i (omega (arith, ranges-of-accepted (b .args .t1) (b .pre .0)))) (l .loop .inv .2),
     )
 
 add-i : tie.Need-add-i Inv-loop μ-loop

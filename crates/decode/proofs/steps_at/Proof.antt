@@ -5,9 +5,9 @@ use Prim.Native.Nat.{ℕ, _+_, _*_, _-_, _≤_, _<_}
 use native.Mathlib.Omega.{arith}
 use lib.ListN.{drop, set}
 use Rattle.lists.specs.Lists.{build, pad}
+use Rattle.lists.proofs.Pad.{pad-build-more}
 use Rattle.step.specs.Step.{stepOf, noStep}
 use Rattle.step.specs.declared.Step.{Step}
-use Rattle.decode.proofs.Fill.{pad-build-more}
 use Rattle.decode.proofs.steps_at.Statement.{statement}
 use Rattle.decode.proofs.steps_at.Tie as tie
 

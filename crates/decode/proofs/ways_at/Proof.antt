@@ -5,7 +5,7 @@ use Prim.Native.Nat.{ℕ, _+_, _-_, _≤_, _<_}
 use native.Mathlib.Omega.{arith}
 use lib.ListN.{getD, set}
 use Rattle.lists.specs.Lists.{build, pad}
-use Rattle.decode.proofs.Fill.{pad-build-more}
+use Rattle.lists.proofs.Pad.{pad-build-more}
 use Rattle.decode.proofs.ways_at.Statement.{statement}
 use Rattle.decode.proofs.ways_at.Tie as tie
 

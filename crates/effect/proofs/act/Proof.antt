@@ -3,9 +3,9 @@ use mathlib.Core.Path.{ap, _∙_}
 use lib.ListN.{getD}
 use Rattle.operator.specs.declared.Kind.the-variants.{Line, Double}
 use Rattle.operator.specs.Op.{Op}
+use Rattle.operator.proofs.ViewLaws.{by-kind, not-empty}
 use Rattle.effect.specs.Effect.{lineResult, effect}
-use Rattle.effect.proofs.ByKind.{by-kind}
-use Rattle.effect.proofs.Arms.{not-empty, deal-test, gather-test, latest-effect, deal-effect, gather-effect}
+use Rattle.effect.proofs.Arms.{deal-test, gather-test, latest-effect, deal-effect, gather-effect}
 use borrow.Author.Needs.{needs}
 use Rattle.effect.proofs.act.Statement.{statement}
 use Rattle.effect.proofs.act.Tie as tie

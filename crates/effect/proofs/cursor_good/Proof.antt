@@ -2,8 +2,8 @@
 use mathlib.Core.Path.{_∙_}
 use Rattle.operator.specs.declared.Kind.the-variants.{Empty, Line, Latest, Double}
 use Rattle.operator.specs.Op.{Op}
+use Rattle.operator.proofs.ViewLaws.{by-kind}
 use Rattle.effect.specs.Effect.{cursorGood}
-use Rattle.effect.proofs.ByKind.{by-kind}
 use Rattle.effect.proofs.Arms.{deal-test, gather-test}
 use borrow.Author.Needs.{needs}
 use Rattle.effect.proofs.cursor_good.Statement.{statement}

@@ -2,8 +2,8 @@
 use mathlib.Core.Path.{_∙_}
 use Rattle.operator.specs.declared.Kind.the-variants.{Empty, Line, Latest, Double, Deal}
 use Rattle.operator.specs.Op.{Op}
+use Rattle.operator.proofs.ViewLaws.{by-kind}
 use Rattle.effect.specs.Effect.{waits}
-use Rattle.effect.proofs.ByKind.{by-kind}
 use Rattle.effect.proofs.Arms.{gather-test, gather-waits}
 use borrow.Author.Needs.{needs}
 use Rattle.effect.proofs.has_to_wait.Statement.{statement}

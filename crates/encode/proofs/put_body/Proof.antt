@@ -1,17 +1,10 @@
 -- `encode::put_body` meets its contract: what each kind writes; an empty operator is never asked.
-use mathlib.Core.Path.{_≡_, ap, sym, _∙_}
 use native.Mathlib.Omega.{arith}
-use Rattle.lists.proofs.Build.{never'}
-use Rattle.operator.specs.Memory.{Ready, isEmpty}
-use Rattle.operator.specs.declared.Kind.the-variants.{Empty}
-use Rattle.operator.specs.declared.Operator.{Operator}
+use Rattle.operator.proofs.ViewLaws.{not-empty}
 use Rattle.encode.proofs.Bodies.{length-of-latest, length-of-double}
 use borrow.Author.Needs.{needs}
 use Rattle.encode.proofs.put_body.Statement.{statement}
 use Rattle.encode.proofs.put_body.Tie as tie
-
-not-empty : {A : Type 0} (o : Operator) → Ready o → o .kind ≡ Empty → A
-not-empty o h e = never' (sym (ap isEmpty e) ∙ h .some)
 
 enum-told : tie.Need-enum-told
 enum-told c = search needs

@@ -4,8 +4,8 @@ use Prim.Native.Nat.{ℕ, _-_, _≤_}
 use native.Mathlib.Omega.{arith}
 use lib.ListN.{length, getD, length-set}
 use lib.Seq.{sets}
+use Rattle.lists.proofs.Sets.{sets-more}
 use Rattle.operator.specs.Memory.{ways}
-use Rattle.encode.proofs.Writes.{sets-more}
 use Rattle.encode.proofs.put_ways.Statement.{statement}
 use Rattle.encode.proofs.put_ways.Tie as tie
 

@@ -1,11 +1,12 @@
 -- `judge::admit` meets its contract: an operator that the judge keeps has queues and variables that have flags.
 use mathlib.Core.Path.{_≡_, _∙_, sym}
 use borrow.Author.Needs.{needs}
+use Rattle.lists.proofs.Members.{all-below}
 use Rattle.operator.specs.Op.{names}
 use Rattle.operator.specs.Memory.{view}
 use Rattle.judge.specs.Judge.{judgeBy}
 use Rattle.judge.specs.Seen.{FLAGS, knownBy}
-use Rattle.judge.proofs.JudgedLaws.{judged-four, judged-six, six-names, four-flagged, all-below}
+use Rattle.judge.proofs.JudgedLaws.{judged-four, judged-six, six-names, four-flagged}
 use Rattle.judge.proofs.admit.Statement.{statement}
 use Rattle.judge.proofs.admit.Tie as tie
 

@@ -7,8 +7,8 @@ use borrow.Author.Needs.{needs}
 use Rattle.lists.specs.Lists.{all, has}
 use Rattle.operator.specs.Op.{Op, cursors}
 use Rattle.operator.specs.declared.Kind.the-variants.{Empty, Line, Latest, Double, Deal, Gather}
+use Rattle.operator.proofs.ViewLaws.{by-kind}
 use Rattle.judge.proofs.Loops.{one-apart}
-use Rattle.judge.proofs.Shapes.{by-kind}
 use Rattle.judge.proofs.cursor_apart.Statement.{statement}
 use Rattle.judge.proofs.cursor_apart.Tie as tie
 

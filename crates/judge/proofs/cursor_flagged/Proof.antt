@@ -8,8 +8,9 @@ use borrow.Author.Needs.{needs}
 use Rattle.lists.specs.Lists.{all}
 use Rattle.operator.specs.Op.{Op, names, cursors}
 use Rattle.operator.specs.declared.Kind.the-variants.{Empty, Line, Latest, Double, Deal, Gather}
+use Rattle.operator.proofs.ViewLaws.{by-kind}
 use Rattle.judge.proofs.Loops.{has-flagged}
-use Rattle.judge.proofs.Shapes.{by-kind, set-by}
+use Rattle.judge.proofs.Shapes.{set-by}
 use Rattle.judge.proofs.cursor_flagged.Statement.{statement}
 use Rattle.judge.proofs.cursor_flagged.Tie as tie
 

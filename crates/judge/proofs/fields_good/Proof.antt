@@ -2,8 +2,8 @@
 use mathlib.Core.Path.{_∙_}
 use borrow.Author.Needs.{needs}
 use Rattle.operator.specs.declared.Kind.the-variants.{Empty, Line, Latest, Double, Deal, Gather}
+use Rattle.operator.proofs.ViewLaws.{by-kind}
 use Rattle.judge.specs.Judge.{seven}
-use Rattle.judge.proofs.Shapes.{by-kind}
 use Rattle.judge.proofs.fields_good.Statement.{statement}
 use Rattle.judge.proofs.fields_good.Tie as tie
 

@@ -8,9 +8,9 @@ use lib.Dec.{ltb}
 use lib.ListN.{length, length-set, replicate}
 use borrow.Author.Tests.{le-ltb}
 use Rattle.lists.specs.Lists.{has}
+use Rattle.lists.proofs.Flags.{has-none, has-below-more}
 use Rattle.judge.specs.Judge.{knownOf}
 use Rattle.judge.specs.Seen.{knownBy}
-use Rattle.judge.proofs.Loops.{has-none, has-below-more}
 use Rattle.judge.proofs.KnownLaws.{known-eq}
 use Rattle.judge.proofs.inputs_seen.Statement.{statement}
 use Rattle.judge.proofs.inputs_seen.Tie as tie

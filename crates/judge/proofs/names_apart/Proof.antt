@@ -10,8 +10,8 @@ use Rattle.step.specs.Step.{stepNames}
 use Rattle.operator.specs.Op.{Op, names}
 use Rattle.operator.specs.Memory.{stepsIn}
 use Rattle.operator.specs.declared.Kind.the-variants.{Empty, Line, Latest, Double, Deal, Gather}
+use Rattle.operator.proofs.ViewLaws.{by-kind}
 use Rattle.judge.proofs.Loops.{one-apart}
-use Rattle.judge.proofs.Shapes.{by-kind}
 use Rattle.judge.proofs.names_apart.Statement.{statement}
 use Rattle.judge.proofs.names_apart.Tie as tie
 

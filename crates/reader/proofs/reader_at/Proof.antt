@@ -1,18 +1,12 @@
 -- `reader::reader_at` meets its contract: past the queues no operator reads.
-use mathlib.Core.Path.{_≡_, refl, sym}
-use mathlib.Core.List.{List, [], _∷_}
-use Prim.Native.Nat.{ℕ, zero, suc, _≤_, _<_}
+use mathlib.Core.Path.{sym}
+use Prim.Native.Nat.{_≤_}
 use native.Mathlib.Omega.{arith}
 use borrow.Author.Needs.{needs}
-use lib.ListN.{length, getD, List·getD-eq-default}
+use lib.ListN.{length, List·getD-eq-default}
+use Rattle.lists.proofs.Places.{getD-any}
 use Rattle.reader.proofs.reader_at.Statement.{statement}
 use Rattle.reader.proofs.reader_at.Tie as tie
-
--- below a list's end it does not matter what stands past it
-getD-below : (l : List ℕ) (k d e : ℕ) → k < length l → getD l k d ≡ getD l k e
-getD-below [] k d e h = absurd (omega arith)
-getD-below (x ∷ l) zero d e h = refl
-getD-below (x ∷ l) (suc k) d e h = getD-below l k d e (omega arith)
 
 array-read-result : tie.Need-array-read-result
 array-read-result c = search needs
@@ -21,7 +15,7 @@ cast-result : tie.Need-cast-result
 cast-result c = search needs
 
 returns : tie.Need-returns
-returns c = getD-below (c .before .args .t1) (c .before .args .q) 0 16 (omega arith)
+returns c = getD-any (c .before .args .t1) (c .before .args .q) 0 16 (omega arith)
 
 returns-2 : tie.Need-returns-2
 returns-2 c =

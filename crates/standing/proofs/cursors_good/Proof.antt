@@ -14,8 +14,9 @@ use Rattle.operator.specs.Op.{Op}
 use Rattle.operator.specs.Memory.{view}
 use Rattle.format.proofs.Heads.{HeadRanges}
 use Rattle.sheet.specs.Sheet.{opAt}
+use Rattle.sheet.proofs.Accepted.{ranges-of-accepted}
 use Rattle.effect.specs.Effect.{cursorGood}
-use Rattle.machine.proofs.AbleOf.{ranges-of-accepted, able-of-accepted}
+use Rattle.machine.proofs.AbleOf.{able-of-accepted}
 use Rattle.standing.proofs.cursors_good.Statement.{statement}
 use Rattle.standing.proofs.cursors_good.Tie as tie
 

@@ -14,12 +14,12 @@ use Rattle.lists.specs.Lists.{all}
 use Rattle.operator.specs.Op.{Op, Abstract}
 use Rattle.judge.proofs.Loops.{first-fails, second-decides}
 use Rattle.sheet.specs.Sheet.{viewSheet}
+use Rattle.sheet.proofs.Accepted.{ranges-of-accepted}
 use Rattle.store.specs.Store.{STORE}
 use Rattle.store.specs.Quiet.{isZero, quietFrom}
 use Rattle.effect.specs.Effect.{cursorGood}
 use Rattle.machine.specs.declared.State.{State}
 use Rattle.machine.specs.Numbers.{good}
-use Rattle.machine.proofs.AbleOf.{ranges-of-accepted}
 use Rattle.standing.proofs.is_good.Statement.{statement}
 use Rattle.standing.proofs.is_good.Tie as tie
 

@@ -7,10 +7,11 @@ use native.Mathlib.Omega.{arith}
 use lib.Dec.{ltb}
 use lib.ListN.{getD}
 use Rattle.lists.specs.Lists.{member, chain, has}
+use Rattle.lists.proofs.Chains.{all-chain-at}
+use Rattle.lists.proofs.Flags.{has-chain-more}
 use Rattle.step.specs.Step.{noStep, stepNames}
 use Rattle.step.specs.declared.Step.{Step}
 use Rattle.operator.specs.Memory.{stepsIn}
-use Rattle.judge.proofs.Loops.{has-chain-more, all-chain-at}
 use Rattle.judge.proofs.steps.steps_flagged.Statement.{statement}
 use Rattle.judge.proofs.steps.steps_flagged.Tie as tie
 

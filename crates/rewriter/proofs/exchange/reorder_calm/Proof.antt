@@ -3,8 +3,8 @@ use mathlib.Core.Path.{sym, _∙_}
 use borrow.Author.Needs.{needs}
 use borrow.Author.Tests.{not-true, not-false}
 use Rattle.sheet.specs.Sheet.{HeldSheet}
+use Rattle.sheet.proofs.InMemory.{held-sheet}
 use Rattle.rewriter.proofs.Answers.{rewrites-no, rewrites-done}
-use Rattle.rewriter.proofs.InMemory.{held-sheet}
 use Rattle.rewriter.proofs.Pairs.{place-below, Pair, few-steps, two-lines, pair-of-place, no-pair}
 use Rattle.rewriter.proofs.Reordering as law
 use Rattle.rewriter.proofs.exchange.reorder_calm.Statement.{statement}

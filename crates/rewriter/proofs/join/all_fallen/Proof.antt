@@ -6,7 +6,7 @@ use native.Mathlib.Omega.{arith}
 use lib.ListN.{length, getD, set}
 use borrow.Author.Needs.{needs}
 use Rattle.lists.specs.Lists.{build, pad}
-use Rattle.decode.proofs.Fill.{pad-build-more}
+use Rattle.lists.proofs.Pad.{pad-build-more}
 use Rattle.operator.specs.Memory.{PLACES}
 use Rattle.rewriter.specs.Rewrite.{fallen}
 use Rattle.rewriter.proofs.Falling.{all-fallen-end}

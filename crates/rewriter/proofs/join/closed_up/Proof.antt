@@ -6,7 +6,7 @@ use native.Mathlib.Omega.{arith}
 use lib.ListN.{getD, set}
 use borrow.Author.Needs.{needs}
 use Rattle.lists.specs.Lists.{build, pad}
-use Rattle.decode.proofs.Fill.{pad-build-more}
+use Rattle.lists.proofs.Pad.{pad-build-more}
 use Rattle.operator.specs.Memory.{noOperator}
 use Rattle.operator.specs.declared.Operator.{Operator}
 use Rattle.format.specs.Head.{OPERATORS}

@@ -2,9 +2,9 @@
 use native.Mathlib.Omega.{arith}
 use borrow.Author.Needs.{needs}
 use Rattle.sheet.specs.Sheet.{HeldSheet}
-use Rattle.machine.proofs.AbleOf.{ranges-of-accepted}
+use Rattle.sheet.proofs.Accepted.{ranges-of-accepted}
+use Rattle.sheet.proofs.InMemory.{held-sheet}
 use Rattle.rewriter.proofs.Answers.{rewrites-no, rewrites-done}
-use Rattle.rewriter.proofs.InMemory.{held-sheet}
 use Rattle.rewriter.proofs.Pairs.{place-below, Pair, few-steps, two-lines, pair-of-place, no-pair}
 use Rattle.rewriter.proofs.Fusing as law
 use Rattle.rewriter.proofs.join.fuse_calm.Statement.{statement}

@@ -5,7 +5,7 @@ use Prim.Native.Nat.{ℕ, _+_, _-_, _≤_, _<_}
 use native.Mathlib.Omega.{arith}
 use lib.ListN.{set}
 use Rattle.lists.specs.Lists.{build, pad}
-use Rattle.decode.proofs.Fill.{pad-build-more}
+use Rattle.lists.proofs.Pad.{pad-build-more}
 use Rattle.rewriter.proofs.split_line.numbers_from.Statement.{statement}
 use Rattle.rewriter.proofs.split_line.numbers_from.Tie as tie
 

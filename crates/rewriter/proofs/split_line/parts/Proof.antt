@@ -3,8 +3,8 @@ use mathlib.Core.Path.{_≡_, _∙_}
 use Prim.Native.Nat.{_-_, _≤_}
 use native.Mathlib.Omega.{arith}
 use Rattle.sheet.specs.Sheet.{HeldSheet}
+use Rattle.sheet.proofs.InMemory.{held-sheet}
 use Rattle.rewriter.specs.Pieces.{Splits}
-use Rattle.rewriter.proofs.InMemory.{held-sheet}
 use Rattle.rewriter.proofs.Parting.{new-from, filled, fill-start, fill-more, fill-end, source-in, source-line}
 use Rattle.rewriter.proofs.split_line.parts.Statement.{statement}
 use Rattle.rewriter.proofs.split_line.parts.Tie as tie

@@ -3,7 +3,7 @@ use mathlib.Core.Path.{sym, _∙_}
 use native.Mathlib.Omega.{arith}
 use borrow.Author.Needs.{needs}
 use borrow.Author.Tests.{not-true, not-false}
-use Rattle.machine.proofs.AbleOf.{ranges-of-accepted}
+use Rattle.sheet.proofs.Accepted.{ranges-of-accepted}
 use Rattle.rewriter.proofs.Answers.{rewrites-no, rewrites-done}
 use Rattle.rewriter.proofs.Splitting.{in-range, refuses-14, refuses-15, refuses-16, refuses-17, steps-few, splits-done, splits-of}
 use Rattle.rewriter.proofs.split_line.split_calm.Statement.{statement}

@@ -6,22 +6,12 @@ use Prim.Native.Nat.{ℕ, zero, suc, _+_, _-_, _<_, _≤_}
 use native.Mathlib.Omega.{arith}
 use lib.ListN.{length, getD, take, drop, length-append, length-drop, List·getD-append}
 use lib.Seq.{length-take-le, getD-append-add, getD-take, getD-drop}
 use Rattle.lists.specs.Lists.{build}
-use Rattle.operator.proofs.Held.{getD-any}
+use Rattle.lists.proofs.Places.{getD-any, map-take, map-drop}
 
 -- the elements p in place of element i of l
 abbrev pub inserted : {A : Type 0} → ℕ → List A → List A → List A
 inserted i p l = take i l ++ (p ++ drop (i + 1) l)
-
-map-take : {A B : Type 0} (f : A → B) (i : ℕ) (l : List A) → map f (take i l) ≡ take i (map f l)
-map-take f zero l = refl
-map-take f (suc i) [] = refl
-map-take {B = B} f (suc i) (x ∷ l) = ap (λ (r : List B). f x ∷ r) (map-take f i l)
-
-map-drop : {A B : Type 0} (f : A → B) (i : ℕ) (l : List A) → map f (drop i l) ≡ drop i (map f l)
-map-drop f zero l = refl
-map-drop f (suc i) [] = refl
-map-drop f (suc i) (x ∷ l) = map-drop f i l
 
 pub map-inserted : {A B : Type 0} (f : A → B) (i : ℕ) (p l : List A) → map f (inserted i p l) ≡ inserted i (map f p) (map f l)
 map-inserted f i p l =

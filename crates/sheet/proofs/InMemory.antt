@@ -5,25 +5,23 @@ use mathlib.Core.Logic.{⊎-elim}
 use mathlib.Core.List.{List, map}
 use Prim.Native.Nat.{ℕ, _<_, _≤_}
 use native.Mathlib.Omega.{arith}
-use lib.ListN.{length, getD, length-map, List·getD-eq-default, List·getD-map}
+use lib.ListN.{getD}
 use lib.Seq.{ext-getD}
 use mir.Val.{Val}
-use Rattle.lists.specs.Lists.{pad}
 use Rattle.lists.proofs.Build.{order}
-use Rattle.lists.proofs.Pad.{pad-length, pad-getD}
-use Rattle.operator.specs.Op.{Op, double}
-use Rattle.operator.specs.Memory.{view, memory, noOperator}
+use Rattle.lists.proofs.Pad.{pad-length}
 use Rattle.operator.specs.declared.Operator.{Operator}
+use Rattle.operator.specs.Memory.{view, memory, noOperator}
 use Rattle.operator.proofs.ViewLaws.{memory-view, vacant-is}
-use Rattle.operator.proofs.Held.{Owned, held-all, getD-any}
+use Rattle.operator.proofs.Held.{Owned, held-all}
 use Rattle.format.specs.Head.{OPERATORS}
 use Rattle.sheet.specs.declared.Sheet.{Sheet}
 use Rattle.sheet.specs.Answer.{accepted}
 use Rattle.sheet.specs.Sheet.{missing, opAt, viewSheet, memorySheet, HeldSheet}
 use Rattle.sheet.specs.Check.{checkOf}
-use Rattle.sheet.proofs.Accepted.{accepted-facts}
+use Rattle.sheet.proofs.Accepted.{accepted-facts, ranges-of-accepted}
+use Rattle.sheet.proofs.Placed.{ops-many, ops-at, places, place-used, place-past}
 use Rattle.sheet.proofs.Sheet as sheet
-use Rattle.machine.proofs.AbleOf.{ranges-of-accepted, ops-many, ops-at}
 
 -- what owning a sheet tells of it
 pub held-sheet : (t : Sheet) (vs : List Val) → Owned sheet.the-field t vs → HeldSheet t
@@ -36,25 +34,6 @@ pub sheet-eq : {i i' q q' v v' n n' : ℕ} {os os' : List Operator} → i ≡ i'
     (record { inputs = i'; queues = q'; variables = v'; count = n'; operators = os' })
 sheet-eq a b c d e = cc
 
--- the places of a list of operators
-abbrev pub places : List Op → List Operator
-places os = pad OPERATORS noOperator (map memory os)
-
-place : (os : List Op) (i : ℕ) → i < OPERATORS → getD (places os) i missing ≡ getD (map memory os) i noOperator
-place os i l =
-    let n = pad-length OPERATORS noOperator (map memory os) in
-    getD-any (places os) i missing noOperator (omega arith) ∙ pad-getD OPERATORS noOperator (map memory os) i l
-
-pub place-used : (os : List Op) (d : Op) (i : ℕ) → i < OPERATORS → i < length os → getD (places os) i missing ≡ memory (getD os i d)
-place-used os d i b l =
-    let n = length-map os memory in
-    place os i b ∙ getD-any (map memory os) i noOperator (memory d) (omega arith) ∙ List·getD-map memory os i d
-
-pub place-past : (os : List Op) (i : ℕ) → i < OPERATORS → length os ≤ i → getD (places os) i missing ≡ noOperator
-place-past os i b l =
-    let n = length-map os memory in
-    place os i b ∙ List·getD-eq-default (map memory os) noOperator {n = i} (omega arith)
-
 module _ (t : Sheet) (h : checkOf t ≡ accepted) (held : HeldSheet t) where
   pub operator-back : (i : ℕ) → i < t .count → memory (view (opAt t i)) ≡ opAt t i
   operator-back i l =
@@ -64,7 +43,7 @@ module _ (t : Sheet) (h : checkOf t ≡ accepted) (held : HeldSheet t) where
   same-place i b =
       ⊎-elim
       (λ (l : i < t .count).
-      place-used (viewSheet t .ops) (double 0 0 0) i b (omega (arith, ops-many t)) ∙ ap memory (ops-at t i l) ∙ operator-back i l)
+      place-used (viewSheet t .ops) i b (omega (arith, ops-many t)) ∙ ap memory (ops-at t i l) ∙ operator-back i l)
       (λ (l : t .count ≤ i).
       place-past (viewSheet t .ops) i b (omega (arith, ops-many t)) ∙ sym (vacant-is (opAt t i) (held .each i b) (accepted-facts t h .vacant i l b)))
       (order i (t .count))
