@@ -1,0 +1,5 @@
+pub mod Worked
+pub mod Outputs
+pub mod Printing
+pub mod OneOutcome
+pub mod Fits

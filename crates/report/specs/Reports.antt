@@ -1,0 +1,32 @@
+-- What a report answers and leaves in the lent buffer, for every input.
+use mathlib.Core.Path.{_≡_}
+use mathlib.Core.Bool.{cond}
+use mathlib.Core.List.{List, _++_}
+use Prim.Native.Nat.{ℕ, _≤_}
+use lib.Dec.{leb}
+use lib.ListN.{length, drop}
+use Rattle.sheet.specs.Answer.{Paper, accepted, refusedAt, paper}
+use Rattle.report.specs.declared.Printed.{Printed}
+use Rattle.report.specs.Print.{textOf}
+
+-- a buffer of this length is always enough
+abbrev pub TEXT : ℕ
+TEXT = 131072
+
+pub record Report : Type 0 where
+  pub answer : Paper
+  pub length : ℕ
+  pub buffer : List ℕ
+
+-- the text at the front of the buffer and the rest of it as it was; a shorter buffer is 18 and stays as it was
+unfoldable pub reportOf : List ℕ → List ℕ → Report
+reportOf s l =
+    cond (leb TEXT (lib.ListN.length l))
+    (record { answer = accepted; length = lib.ListN.length (textOf s); buffer = textOf s ++ drop (lib.ListN.length (textOf s)) l })
+    (record { answer = refusedAt 18 0; length = 0; buffer = l })
+
+pub record Reports (input before after : List ℕ) (r : Printed) : Type 0 where
+  pub answer : paper (r .answer) ≡ reportOf input before .answer
+  pub length : r .length ≡ reportOf input before .length
+  pub buffer : after ≡ reportOf input before .buffer
+  pub fits : r .length ≤ TEXT

@@ -1,0 +1,3 @@
+pub mod Records
+pub mod Trial
+pub mod Tries

@@ -1,0 +1,62 @@
+-- What one input of `bench` comes to: its first refusal in record order, or counts, rest, outputs and variables.
+use Prim.Native.Nat.{ℕ}
+use mathlib.Core.Bool.{Bool, cond}
+use mathlib.Core.List.{List, [], map}
+use lib.Dec.{eqb, leb}
+use lib.ListN.{length, getD, take, replicate}
+use lib.IntN.{ℤ, pos}
+use Rattle.lists.specs.Lists.{build, chain}
+use Rattle.operator.specs.Op.{Abstract}
+use Rattle.judge.specs.Judge.{known, whole}
+use Rattle.format.specs.Head.{VARIABLES}
+use Rattle.sheet.specs.Check.{Kept, stopped, kept, nextRecord}
+use Rattle.codec.specs.Read.{frontOf}
+use Rattle.store.specs.Store.{QUEUES}
+use Rattle.store.specs.declared.Item.{Item}
+use Rattle.machine.specs.Machine.{Machine, isOutput, Ran, runM}
+use Rattle.machine.specs.Ready.{readySet}
+use Rattle.trial.specs.Records.{Feeds, unfed, fed, feedsFrom, Firings, unfired, firings, firingsFrom}
+
+pub data Trial : Type 0 where
+  refusal : (number spot : ℕ) → Trial
+  figures : (fired skipped : ℕ) (rest : Bool) (outputs : List (ℕ × Item)) (variables : List ℤ) → Trial
+
+-- each output by number, each item oldest first: the queue and the item
+unfoldable pub outputsAt : Abstract → Machine → ℕ → List (ℕ × Item)
+outputsAt a m q = cond (isOutput a q) (map (λ (x : Item). (q, x)) (getD (m .queues) q [])) []
+
+abbrev pub outputsOf : Abstract → Machine → List (ℕ × Item)
+outputsOf a m = chain (outputsAt a m) (build (a .queues) (λ (q : ℕ). q))
+
+abbrev pub variablesOf : Abstract → Machine → List ℤ
+variablesOf a m = take (a .variables) (m .vars)
+
+abbrev pub figuresOf : Abstract → Ran → Trial
+figuresOf a r =
+    figures (r .fired) (r .skipped) (eqb (readySet a (r .machine)) 0) (outputsOf a (r .machine)) (variablesOf a (r .machine))
+
+-- firings are run only if all records are good
+abbrev pub firedTrial : Abstract → Machine → Firings → Trial
+firedTrial a m (unfired r k) = refusal r k
+firedTrial a m (firings qs) = figuresOf a (runM a qs m)
+
+abbrev pub fedTrial : Abstract → Feeds → Trial
+fedTrial a (unfed r k) = refusal r k
+fedTrial a (fed m k rest) = firedTrial a m (firingsFrom (length rest) k rest)
+
+-- a fresh start
+abbrev pub start : Machine
+start = record { queues = replicate QUEUES []; vars = replicate VARIABLES (pos 0) }
+
+-- a queue that is never defined is 5 at record N+1, ahead of that record itself
+abbrev pub keptTrial : Kept → Trial
+keptTrial (stopped r k) = refusal r k
+keptTrial (kept a rest) =
+    cond (whole (a .queues) (known a)) (fedTrial a (feedsFrom (length rest) a start (nextRecord a) rest)) (refusal 5 (nextRecord a))
+
+-- over-long input is 18, before all else
+abbrev pub INPUT : ℕ
+INPUT = 32768
+
+unfoldable pub trialOf : List ℕ → Trial
+trialOf s = cond (leb (length s) INPUT) (keptTrial (frontOf s)) (refusal 18 0)
