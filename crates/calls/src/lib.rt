@@ -31,9 +31,17 @@ pub fn fire_known(t: Sheet, q: u8, state: State, store: &mut [i32]) -> Fired
     let rs = reader::readers(t);
     let i = reader::reader_at(rs, q);
     let o = t.operators[i % sheet::OPERATORS];
-    machine::fire_found(i < sheet::OPERATORS, o, q, state, &mut *store)
+    let mut counts = state.counts;
+    let mut vars = state.vars;
+    let found = i < sheet::OPERATORS;
+    let answer = machine::fire_found(found, o, q, &mut counts, &mut vars, &mut *store);
+    Fired {
+        answer,
+        state: State { counts, vars },
+    }
 }
 
+// Puts an item on an input.
 pub fn feed_known(t: Sheet, q: u8, x: Item, state: State, store: &mut [i32]) -> Fired
     requires { ⌜ Stands t state (now store) ⌝ }
     ensures { λ r. ⌜ Answers (saved state (now (store .entry)) (feedM (viewSheet t) (decode state (now (store .entry))) q x)) (r .answer) (r .state) (now (store .exit)) ⌝ }
@@ -41,11 +49,11 @@ pub fn feed_known(t: Sheet, q: u8, x: Item, state: State, store: &mut [i32]) -> 
     if t.inputs <= q {
         return machine::no(9, state);
     }
-    let counts = state.counts;
+    let mut counts = state.counts;
     if machine::is_full(counts, q) {
         return machine::no(12, state);
     }
-    let counts = machine::put(counts, &mut *store, q, x);
+    machine::put(&mut counts, &mut *store, q, x);
     let vars = state.vars;
     Fired {
         answer: Answer::Done,
@@ -85,12 +93,12 @@ pub fn take_known(t: Sheet, q: u8, state: State, store: &mut [i32]) -> Taken
         return no_take(Answer::Refused { number: 9 }, state);
     }
     let i = q as usize;
-    let counts = state.counts;
+    let mut counts = state.counts;
     if counts[i] == 0 {
         return no_take(Answer::Refused { number: 10 }, state);
     }
     let item = store::first(&*store, i);
-    let counts = machine::take_one(counts, &mut *store, q);
+    machine::take_one(&mut counts, &mut *store, q);
     let vars = state.vars;
     Taken {
         answer: Answer::Done,
@@ -116,7 +124,8 @@ pub fn run_known(t: Sheet, state: State, store: &mut [i32], list: &[u8]) -> Ran
     ensures { λ r. ⌜ RunAnswers (savedRun (runM (viewSheet t) (now (list .entry)) (decode state (now (store .entry))))) (r .answer) (r .fired) (r .skipped) (r .state) (now (store .exit)) ⌝ }
 {
     let rs = reader::readers(t);
-    let mut st = state;
+    let mut counts = state.counts;
+    let mut vars = state.vars;
     let mut fired: usize = 0;
     let mut skipped: usize = 0;
     let mut k: usize = 0;
@@ -124,20 +133,24 @@ pub fn run_known(t: Sheet, state: State, store: &mut [i32], list: &[u8]) -> Ran
         let q = list[k];
         let i = reader::reader_at(rs, q);
         let o = t.operators[i % sheet::OPERATORS];
-        let f = machine::fire_found(i < sheet::OPERATORS, o, q, st, &mut *store);
-        let a = f.answer;
+        let a = machine::fire_found(
+            i < sheet::OPERATORS,
+            o,
+            q,
+            &mut counts,
+            &mut vars,
+            &mut *store,
+        );
         let n = one_if_done(a);
         fired += n;
         skipped += 1 - n;
-        let next = f.state;
-        st = next;
         k += 1;
     }
     Ran {
         answer: Answer::Done,
         fired,
         skipped,
-        state: st,
+        state: State { counts, vars },
     }
 }
 

@@ -54,12 +54,13 @@ pub fn put_items(s: &mut [u8], at: usize, q: u8, n: usize, part: &[i32]) -> usiz
     ensures { λ r. ⌜ Puts (queueLines q (itemsOf n (now (part .entry)))) (now (s .entry)) at (now (s .exit)) r × (r ≤ at + LINE * n) ⌝ }
 {
     let mut end = at;
-    let mut i = 0;
-    while i < n {
+    let mut left = n;
+    while 0 < left {
+        let i = n - left;
         let from = store::FIELDS * i;
         let to = from + store::FIELDS;
         end = put_item(s, end, q, &part[from..to]);
-        i += 1;
+        left -= 1;
     }
     end
 }

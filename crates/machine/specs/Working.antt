@@ -26,7 +26,7 @@ use Rattle.machine.specs.declared.ReadySet.{ReadySet}
 use Rattle.machine.specs.declared.State.{State}
 use Rattle.machine.specs.Machine.{Machine, Outcome, refuse, done, fireOp}
 use Rattle.machine.specs.Numbers.{decode, good}
-use Rattle.machine.specs.Calls.{Call, TakeCall, RunCall, ReadyCall}
+use Rattle.machine.specs.Calls.{saved, Call, TakeCall, RunCall, ReadyCall}
 
 -- the place of the operator that reads q, and OPERATORS where none does
 abbrev pub readerFrom : List Op → ℕ → ℕ → ℕ
@@ -59,6 +59,10 @@ abbrev pub putsRaw : Raw → List ℕ → Item → Raw
 putsRaw w [] x = w
 putsRaw w (q ∷ to) x = putsRaw (putRaw w q x) to x
 
+-- the state of counts and variables that are lent by themselves
+abbrev pub stateWith : List ℕ → List ℤ → State
+stateWith cs vs = record { counts = cs; vars = vs }
+
 -- room for an item on each of the queues, one after the other
 abbrev pub Room : List ℕ → List ℕ → Type 0
 Room cs [] = Unit
@@ -89,6 +93,11 @@ pub record Answers (c : Call) (answer : Answer) (state : State) (store : List �
   pub answered : paper answer ≡ c .answer
   pub stated : state ≡ c .state
   pub stored : store ≡ c .store
+
+-- the same of a firing on lent counts and variables
+abbrev pub LentAnswers : (Machine → Outcome) → List ℕ → List ℤ → List ℤ → Answer → List ℕ → List ℤ → List ℤ → Type 0
+LentAnswers f cs vs s answer cs' vs' s' =
+    Answers (saved (stateWith cs vs) s (f (decode (stateWith cs vs) s))) answer (stateWith cs' vs') s'
 
 -- the number of a refusal, 0 for none
 abbrev pub numberIn : Outcome → ℕ

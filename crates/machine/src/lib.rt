@@ -19,9 +19,9 @@ ghost use Rattle.sheet.specs.Check.{checkOf};
 ghost use Rattle.store.specs.Store.{STORE, QUEUES, ROOM};
 ghost use Rattle.effect.specs.Effect.{putsOf, cursorGood};
 ghost use Rattle.machine.specs.Machine.{fireOp};
-ghost use Rattle.machine.specs.Numbers.{decode, good};
-ghost use Rattle.machine.specs.Calls.{saved, standing};
-ghost use Rattle.machine.specs.Working.{readersOf, readersWith, raw, putRaw, takeRaw, putsRaw, Room, Fit, fireFound, Answers, Attempts};
+ghost use Rattle.machine.specs.Numbers.{good};
+ghost use Rattle.machine.specs.Calls.{standing};
+ghost use Rattle.machine.specs.Working.{readersOf, readersWith, stateWith, LentAnswers, raw, putRaw, takeRaw, putsRaw, Room, Fit, fireFound, Attempts};
 
 pub const QUEUES: usize = store::QUEUES;
 
@@ -104,44 +104,42 @@ fn no_room(counts: [u8; QUEUES], puts: Puts) -> bool
 }
 
 // Puts an item on queue q.
-pub fn put(counts: [u8; QUEUES], store: &mut [i32], q: u8, x: Item) -> [u8; QUEUES]
-    requires { ⌜ (length (now store) ≡ STORE) × (q < QUEUES) × (getD counts q 0 < ROOM) ⌝ }
-    ensures { λ r. ⌜ raw r (now (store .exit)) ≡ putRaw (raw counts (now (store .entry))) q x ⌝ }
+pub fn put(counts: &mut [u8; QUEUES], store: &mut [i32], q: u8, x: Item)
+    requires { ⌜ (length (now store) ≡ STORE) × (q < QUEUES) × (getD (now counts) q 0 < ROOM) ⌝ }
+    ensures { λ _. ⌜ raw (now (counts .exit)) (now (store .exit)) ≡ putRaw (raw (now (counts .entry)) (now (store .entry))) q x ⌝ }
 {
     let i = q as usize;
     let n = counts[i];
     store::push(&mut *store, i, n as usize, x);
-    let mut c = counts;
-    c[i] = n + 1;
-    c
+    counts[i] = n + 1;
 }
 
 // Puts an item on each of the queues.
-fn put_all(counts: [u8; QUEUES], store: &mut [i32], puts: Puts, x: Item) -> [u8; QUEUES]
-    requires { ⌜ (length (now store) ≡ STORE) × Room counts (putsOf puts) ⌝ }
-    ensures { λ r. ⌜ raw r (now (store .exit)) ≡ putsRaw (raw counts (now (store .entry))) (putsOf puts) x ⌝ }
+fn put_all(counts: &mut [u8; QUEUES], store: &mut [i32], puts: Puts, x: Item)
+    requires { ⌜ (length (now store) ≡ STORE) × Room (now counts) (putsOf puts) ⌝ }
+    ensures { λ _. ⌜ raw (now (counts .exit)) (now (store .exit)) ≡ putsRaw (raw (now (counts .entry)) (now (store .entry))) (putsOf puts) x ⌝ }
 {
     match puts {
-        Puts::Nowhere => counts,
-        Puts::One(a) => put(counts, &mut *store, a, x),
+        Puts::Nowhere => {}
+        Puts::One(a) => {
+            put(&mut *counts, &mut *store, a, x);
+        }
         Puts::Two(a, b) => {
-            let c = put(counts, &mut *store, a, x);
-            put(c, &mut *store, b, x)
+            put(&mut *counts, &mut *store, a, x);
+            put(&mut *counts, &mut *store, b, x);
         }
     }
 }
 
 // Takes the oldest item of queue q.
-pub fn take_one(counts: [u8; QUEUES], store: &mut [i32], q: u8) -> [u8; QUEUES]
-    requires { ⌜ (length (now store) ≡ STORE) × (q < QUEUES) × (0 < getD counts q 0) ⌝ }
-    ensures { λ r. ⌜ raw r (now (store .exit)) ≡ takeRaw (raw counts (now (store .entry))) q ⌝ }
+pub fn take_one(counts: &mut [u8; QUEUES], store: &mut [i32], q: u8)
+    requires { ⌜ (length (now store) ≡ STORE) × (q < QUEUES) × (0 < getD (now counts) q 0) ⌝ }
+    ensures { λ _. ⌜ raw (now (counts .exit)) (now (store .exit)) ≡ takeRaw (raw (now (counts .entry)) (now (store .entry))) q ⌝ }
 {
     let i = q as usize;
     store::take(&mut *store, i);
     let n = counts[i];
-    let mut c = counts;
-    c[i] = n - 1;
-    c
+    counts[i] = n - 1;
 }
 
 fn none_of(number: u8, x: Item, vars: [i32; VARIABLES]) -> Attempt
@@ -183,36 +181,60 @@ pub fn try_operator(o: Operator, q: u8, state: State, store: &[i32]) -> Attempt
     }
 }
 
-// Fires an operator from queue q.
-fn fire_operator(o: Operator, q: u8, state: State, store: &mut [i32]) -> Fired
-    requires { ⌜ Fit o q state (now store) ⌝ }
-    ensures { λ r. ⌜ Answers (saved state (now (store .entry)) (fireOp (view o) (decode state (now (store .entry))) q)) (r .answer) (r .state) (now (store .exit)) ⌝ }
+// Fires an operator from queue q. Counts and variables are lent, so that a firing copies none of them back.
+fn fire_operator(
+    o: Operator,
+    q: u8,
+    counts: &mut [u8; QUEUES],
+    vars: &mut [i32; VARIABLES],
+    store: &mut [i32],
+) -> Answer
+    requires { ⌜ (length (now counts) ≡ QUEUES) × Fit o q (stateWith (now counts) (now vars)) (now store) ⌝ }
+    ensures { λ r. ⌜ LentAnswers (λ m. fireOp (view o) m q) (now (counts .entry)) (now (vars .entry)) (now (store .entry)) r (now (counts .exit)) (now (vars .exit)) (now (store .exit)) ⌝ }
 {
-    let a = try_operator(o, q, state, &*store);
+    let i = q as usize;
+    if counts[i] == 0 {
+        return Answer::Refused { number: 10 };
+    }
+    let cs = *counts;
+    let vs = *vars;
+    let a = try_operator(
+        o,
+        q,
+        State {
+            counts: cs,
+            vars: vs,
+        },
+        &*store,
+    );
     let number = a.number;
     if number != 0 {
-        return no(number, state);
+        return Answer::Refused { number };
     }
+    take_one(&mut *counts, &mut *store, q);
     let e = a.effect;
-    let counts = state.counts;
-    let left = take_one(counts, &mut *store, q);
     let puts = e.puts;
     let x = e.item;
-    let counts = put_all(left, &mut *store, puts, x);
-    let vars = e.vars;
-    Fired {
-        answer: Answer::Done,
-        state: State { counts, vars },
-    }
+    put_all(&mut *counts, &mut *store, puts, x);
+    let next = e.vars;
+    *vars = next;
+    Answer::Done
 }
 
 // Fires the operator that was found, 9 where none was.
-pub fn fire_found(found: bool, o: Operator, q: u8, state: State, store: &mut [i32]) -> Fired
-    requires { ⌜ (found ≡ true → Fit o q state (now store)) ⌝ }
-    ensures { λ r. ⌜ Answers (saved state (now (store .entry)) (fireFound found (view o) (decode state (now (store .entry))) q)) (r .answer) (r .state) (now (store .exit)) ⌝ }
+pub fn fire_found(
+    found: bool,
+    o: Operator,
+    q: u8,
+    counts: &mut [u8; QUEUES],
+    vars: &mut [i32; VARIABLES],
+    store: &mut [i32],
+) -> Answer
+    requires { ⌜ (length (now counts) ≡ QUEUES) × (found ≡ true → Fit o q (stateWith (now counts) (now vars)) (now store)) ⌝ }
+    ensures { λ r. ⌜ LentAnswers (λ m. fireFound found (view o) m q) (now (counts .entry)) (now (vars .entry)) (now (store .entry)) r (now (counts .exit)) (now (vars .exit)) (now (store .exit)) ⌝ }
 {
     if !found {
-        return no(9, state);
+        return Answer::Refused { number: 9 };
     }
-    fire_operator(o, q, state, &mut *store)
+    fire_operator(o, q, &mut *counts, &mut *vars, &mut *store)
 }

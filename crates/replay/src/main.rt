@@ -1,10 +1,4 @@
 // replay: makes the calls of a stream, one at a time, and prints what each answers.
-mod on_sheet;
-mod on_state;
-mod print;
-mod show;
-mod stream;
-
 use machine::State;
 use on_sheet::Sheeted;
 use on_state::Stated;
@@ -44,7 +38,7 @@ fn sheet_call(call: u8, body: &[u8], t: Sheet, out: &mut [u8], used: usize) -> S
         7 => on_sheet::call_split(body, t, &mut *out, used),
         8 => on_sheet::call_reorder(body, t, &mut *out, used),
         _ => {
-            let used = print::put_bad(&mut *out, used);
+            let used = printer::put_bad(&mut *out, used);
             Sheeted { sheet: t, used }
         }
     }
@@ -72,7 +66,7 @@ fn state_call(
         15 => on_state::set_count(body, state, &mut *out, used),
         16 => on_state::set_variable(body, state, &mut *out, used),
         _ => {
-            let used = print::put_bad(&mut *out, used);
+            let used = printer::put_bad(&mut *out, used);
             Stated { state, used }
         }
     }
@@ -100,7 +94,7 @@ fn other_call(
         14 => on_state::call_ready(body, t, state, &*store, &mut *out, used),
         17 => on_state::set_number(body, &mut *store, &mut *out, used),
         18 => show::show_all(body, state, &*store, &mut *out, used),
-        _ => print::put_bad(&mut *out, used),
+        _ => printer::put_bad(&mut *out, used),
     }
 }
 
@@ -109,14 +103,14 @@ fn end_answer(out: &mut [u8], used: usize) -> usize
     requires { ⌜ used < length (now out) ⌝ }
     ensures { λ r. ⌜ r < length (now (out .exit)) ⌝ }
 {
-    print::put_line(&mut *out, used, b"--")
+    printer::put_line(&mut *out, used, b"--")
 }
 
 fn end_cut(out: &mut [u8], used: usize)
     requires { ⌜ used < length (now out) ⌝ }
 {
-    let at = print::put_line(&mut *out, used, b"cut");
-    print::flush(&*out, at);
+    let at = printer::put_line(&mut *out, used, b"cut");
+    printer::flush(&*out, at);
 }
 
 // The whole stream. Nothing says that it ends, so the turns are counted down from a number that no run uses up.
@@ -175,7 +169,7 @@ fn serve(input: &mut [u8], store: &mut [i32], text: &mut [u8], out: &mut [u8])
                 return;
             }
             Found::End => {
-                print::flush(&*out, used);
+                printer::flush(&*out, used);
                 return;
             }
         }

@@ -106,20 +106,21 @@ pub fn first(store: &[i32], q: usize) -> Item
     first_item(&store[from..to])
 }
 
-// Whether each number of a part from `from` on is 0.
+// Whether each number of a part from `from` on is 0. It looks at all of them: without a way out the loop takes several at a time.
 pub fn zeros_from(part: &[i32], from: usize) -> bool
     requires { ⌜ from ≤ length (now part) ⌝ }
     ensures { λ r. ⌜ r ≡ zerosFrom (now (part .entry)) from ⌝ }
 {
+    let mut clean = true;
     let mut i = from;
     while i < part.len() {
         let v = part[i];
         if v != 0 {
-            return false;
+            clean = false;
         }
         i += 1;
     }
-    true
+    clean
 }
 
 // Whether a queue has room for its count and its places past the last item are 0.

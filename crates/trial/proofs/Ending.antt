@@ -1,11 +1,13 @@
 -- How a trial ends, function by function: a refusal, the run of the firings, and the fresh start that the feeds begin with.
 -- Assumes nothing.
 use mathlib.Core.Path.{_≡_, sym, ap, _∙_, subst}
+use mathlib.Core.Logic.{⊎-elim}
 use mathlib.Core.List.{List}
 use Prim.Native.Nat.{ℕ, _+_}
 use lib.ListN.{length, take, drop, replicate}
 use lib.IntN.{ℤ, pos}
 use borrow.Author.Tests.{eq-eqb, ne-eqb}
+use Rattle.lists.proofs.Build.{same-or}
 use Rattle.sheet.specs.declared.Answer.{Answer}
 use Rattle.sheet.specs.declared.Sheet.{Sheet}
 use Rattle.sheet.specs.Answer.{accepted}
@@ -24,9 +26,9 @@ use Rattle.machine.proofs.Sound.{sound-of-accepted}
 use Rattle.trial.specs.declared.Fed.{Fed}
 use Rattle.trial.specs.declared.Listed.{Listed}
 use Rattle.trial.specs.declared.Tried.{Tried}
-use Rattle.trial.specs.Records.{Feeds, fed, feedsFrom, Firings}
+use Rattle.trial.specs.Records.{Feeds, unfed, fed, feedsFrom, Firings}
 use Rattle.trial.specs.Trial.{Trial, refusal, figuresOf, firedTrial, fedTrial, start}
-use Rattle.trial.specs.Tries.{told, FeedsTo, Lists, Tries}
+use Rattle.trial.specs.Tries.{told, feedsTold, trialFed, FeedsTo, Lists, Tries}
 
 -- a refusal, as `refused` answers it
 refusal-told : (r : Tried) (s : List ℤ) (number spot : ℕ) → (number ≡ 0 → ⊥) → r .number ≡ number → r .spot ≡ spot →
@@ -54,16 +56,27 @@ module _ (a : Abstract) (m : Machine) (f : Firings) (l : Listed) (list : List �
       Tries (firedTrial a m f) r s
   firings-run r s z t = subst (λ (k : Firings). Tries (firedTrial a m k) r s) (sym (h .lists z)) t
 
--- the feeds after the sheet
-module _ (t : Sheet) (s : List ℕ) (f : Feeds) (r : Fed) (store : List ℤ) (h : FeedsTo f t s r store) where
-  pub feeds-refused : (x : Tried) (s' : List ℤ) → (r .number ≡ 0 → ⊥) → (x .number ≡ r .number) × (x .spot ≡ r .spot) →
-      Tries (fedTrial (viewSheet t) f) x s'
-  feeds-refused x s' ne d =
-      refused-tells (fedTrial (viewSheet t) f) x s' (r .number) (r .spot) (ap (fedTrial (viewSheet t)) (h .stops ne)) ne d
+-- the feeds after the sheet: how they are told, a refused one, and the firings after good ones
+module _ (r : Fed) (store : List ℤ) (s : List ℕ) where
+  told-refused : (r .number ≡ 0 → ⊥) → feedsTold r store s ≡ unfed (r .number) (r .spot)
+  told-refused ne = rw (ne-eqb (r .number) 0 ne)
 
-  pub feeds-made : (x : Tried) (s' : List ℤ) → r .number ≡ 0 →
-      Tries (fedTrial (viewSheet t) (fed (decode (r .state) store) (r .spot) (drop (r .at) s))) x s' → Tries (fedTrial (viewSheet t) f) x s'
-  feeds-made x s' z k = subst (λ (g : Feeds). Tries (fedTrial (viewSheet t) g) x s') (sym (h .feeds z)) k
+  told-fed : r .number ≡ 0 → feedsTold r store s ≡ fed (decode (r .state) store) (r .spot) (drop (r .at) s)
+  told-fed z = rw (eq-eqb (r .number) 0 z)
+
+  pub feeds-told : (t : Sheet) (f : Feeds) → FeedsTo f t s r store → feedsTold r store s ≡ f
+  feeds-told t f h =
+      ⊎-elim (λ (z : r .number ≡ 0). told-fed z ∙ sym (h .feeds z)) (λ (ne : r .number ≡ 0 → ⊥). told-refused ne ∙ sym (h .stops ne))
+      (same-or (r .number) 0)
+
+  pub feeds-refused : (t : Sheet) (x : Tried) (s' : List ℤ) → (r .number ≡ 0 → ⊥) → (x .number ≡ r .number) × (x .spot ≡ r .spot) →
+      Tries (trialFed t r store s) x s'
+  feeds-refused t x s' ne d =
+      refused-tells (trialFed t r store s) x s' (r .number) (r .spot) (ap (fedTrial (viewSheet t)) (told-refused ne)) ne d
+
+  pub feeds-made : (t : Sheet) (x : Tried) (s' : List ℤ) → r .number ≡ 0 →
+      Tries (fedTrial (viewSheet t) (fed (decode (r .state) store) (r .spot) (drop (r .at) s))) x s' → Tries (trialFed t r store s) x s'
+  feeds-made t x s' z k = same-trial (ap (fedTrial (viewSheet t)) (sym (told-fed z))) k
 
 -- a fresh start
 fresh-call : (st : State) (s : List ℤ) → length s ≡ STORE →

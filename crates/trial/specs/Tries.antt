@@ -65,9 +65,12 @@ figuresIn r s =
 abbrev pub told : Tried → List ℤ → Trial
 told r s = cond (eqb (r .number) 0) (figuresIn r s) (refusal (r .number) (r .spot))
 
--- what is left after the feeds that were made
+-- how the feeds ended, in the paper's words, and what the input comes to from there
+abbrev pub feedsTold : Fed → List ℤ → List ℕ → Feeds
+feedsTold f store s = cond (eqb (f .number) 0) (fed (decode (f .state) store) (f .spot) (drop (f .at) s)) (unfed (f .number) (f .spot))
+
 abbrev pub trialFed : Sheet → Fed → List ℤ → List ℕ → Trial
-trialFed t f store s = fedTrial (viewSheet t) (fed (decode (f .state) store) (f .spot) (drop (f .at) s))
+trialFed t f store s = fedTrial (viewSheet t) (feedsTold f store s)
 
 -- a trial comes to f; where it is not refused, sheet and numbers stand
 pub record Tries (f : Trial) (r : Tried) (after : List ℤ) : Type 0 where

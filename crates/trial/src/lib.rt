@@ -211,21 +211,21 @@ fn run_list(t: Sheet, state: State, store: &mut [i32], list: &[u8]) -> Tried
     requires { ⌜ Stands t state (now store) ⌝ }
     ensures { λ r. ⌜ Tries (figuresOf (viewSheet t) (runM (viewSheet t) (now (list .entry)) (decode state (now (store .entry))))) r (now (store .exit)) ⌝ }
 {
-    let f = runner::run(t, state, &mut *store, list);
+    let f = calls::run_known(t, state, &mut *store, list);
     let after = f.state;
-    let ready = runner::ready(t, after, &*store);
+    let ready = calls::ready_known(t, after, &*store);
     Tried {
         number: 0,
         spot: 0,
         fired: f.fired,
         skipped: f.skipped,
-        rest: ready.set == 0,
+        rest: ready == 0,
         sheet: t,
         state: after,
     }
 }
 
-// The firings after the feeds: run only if all records are good.
+// The first refusal in record order, a feed's and then a firing's; the firings are run only if all records are good.
 fn fire_rest(s: &[u8], t: Sheet, f: Fed, store: &mut [i32]) -> Tried
     requires { ⌜ Stands t (f .state) (now store) × (f .at ≤ length (now s)) × (length (now s) ≤ INPUT) × (f .spot ≤ f .at + 17) ⌝ }
     ensures { λ r. ⌜ Tries (trialFed t f (now (store .entry)) (now (s .entry))) r (now (store .exit)) ⌝ }
@@ -234,9 +234,13 @@ fn fire_rest(s: &[u8], t: Sheet, f: Fed, store: &mut [i32]) -> Tried
     let state = f.state;
     let mut list = [0u8; LIST];
     let l = list_firings(s, at, f.spot, &mut list);
-    let number = l.number;
-    if number != 0 {
-        return refused(number, l.spot);
+    let first = f.number;
+    if first != 0 {
+        return refused(first, f.spot);
+    }
+    let next = l.number;
+    if next != 0 {
+        return refused(next, l.spot);
     }
     let n = l.count;
     run_list(t, state, &mut *store, &list[..n])
@@ -254,10 +258,6 @@ fn try_sheet(s: &[u8], t: Sheet, end: usize, store: &mut [i32]) -> Tried
     let z = runner::fresh(blank, &mut *store);
     let state = z.state;
     let f = feed_all(s, end, t, state, &mut *store);
-    let number = f.number;
-    if number != 0 {
-        return refused(number, f.spot);
-    }
     fire_rest(s, t, f, &mut *store)
 }
 

@@ -93,12 +93,12 @@ returns-2 c =
 
 put-requires : tie.Need-put-requires
 put-requires c κs =
-    let i = c .before .before .before .before in
+    let i = c .before .before .before .before .before in
     let d = i .before .before in
     let a = d .args in (
       tested-of-good (viewSheet (a .t)) (a .state) (now (a .store)) (d .pre .numbers) .size,
       input-below (a .t) (a .state) (now (a .store)) (a .q) (a .x) (i .if1 .left) (d .pre),
-      leb-false ROOM _ (sym (c .before .before .is-full .ensures) ∙ c .before .if2 .left),
+      leb-false ROOM _ (sym (c .before .before .before .is-full .ensures) ∙ c .before .before .if2 .left),
     )
 
 same-length : tie.Need-same-length
@@ -107,12 +107,12 @@ same-length c = search needs
 returns-3 : tie.Need-returns-3
 returns-3 c =
     let p = c .before .before in
-    let e = p .before .before .before in
+    let e = p .before .before .before .before in
     let i = e .before .before in
     let d = i .before .before in
     let a = d .args in
-    fed-answers (a .t) (a .state) (now (a .store)) (a .q) (a .x) (i .if1 .left) (d .pre) (p .put .result) _ (many d)
-    (sym (e .is-full .ensures) ∙ p .before .before .if2 .left) (p .put .ensures)
+    fed-answers (a .t) (a .state) (now (a .store)) (a .q) (a .x) (i .if1 .left) (d .pre) (p .put .last .0) _ (many d)
+    (sym (e .is-full .ensures) ∙ p .before .before .before .if2 .left) (p .put .ensures)
 
 pub feed-known-spec : {M : Type 1} → statement M
 feed-known-spec =

@@ -1,15 +1,21 @@
 -- `calls::fire_known` meets its contract: the operator that the table of readers names fires.
 -- Assumes nothing.
-use mathlib.Core.Path.{subst}
+use mathlib.Core.Path.{_≡_, subst}
+use lib.ListN.{length}
+use Rattle.store.specs.Store.{QUEUES}
 use denote.Ref.{now}
 use borrow.Author.Needs.{needs}
 use Rattle.machine.specs.Machine.{Outcome}
 use Rattle.machine.specs.Numbers.{decode}
 use Rattle.machine.specs.Calls.{saved}
-use Rattle.machine.specs.Working.{Answers}
+use Rattle.machine.specs.Working.{stateWith, Answers}
 use Rattle.calls.proofs.Found.{fire-as-found, fit-as-found}
 use Rattle.calls.proofs.fire_known.Statement.{statement}
 use Rattle.calls.proofs.fire_known.Tie as tie
+
+module _ (d : tie.Start) where
+  many : length (d .args .state .counts) ≡ QUEUES
+  many = search needs
 
 readers-requires : tie.Need-readers-requires
 readers-requires c κs = search needs
@@ -25,11 +31,13 @@ element-copy-out-o c = search needs
 
 fire-found-requires : tie.Need-fire-found-requires
 fire-found-requires c κs =
-    let k = c .before .before in
+    let k = c .before .before .before .before .before .before in
     let r = k .before in
     let d = r .before in
-    let a = d .args in
-    fit-as-found (a .t1) (a .q) (k .reader-at .result) (r .readers .result) (r .readers .ensures) (k .reader-at .ensures) (a .state) (now (a .store)) (d .pre)
+    let a = d .args in (
+      many d,
+      fit-as-found (a .t1) (a .q) (k .reader-at .result) (r .readers .result) (r .readers .ensures) (k .reader-at .ensures) (a .state) (now (a .store)) (d .pre),
+    )
 
 same-length : tie.Need-same-length
 same-length c = search needs
@@ -37,11 +45,13 @@ same-length c = search needs
 returns : tie.Need-returns
 returns c =
     let f = c .before .fire-found in
-    let k = c .before .before .before .before in
+    let k = c .before .before .before .before .before .before .before .before in
     let r = k .before in
     let d = r .before in
     let a = d .args in
-    subst (λ (o : Outcome). Answers (saved (a .state) (now (a .store)) o) (f .result .answer) (f .result .state) (f .last .1 .1 .1 .1 .0))
+    subst
+    (λ (o : Outcome).
+    Answers (saved (a .state) (now (a .store)) o) (f .result) (stateWith (f .last .1 .1 .1 .0) (f .last .1 .1 .1 .1 .0)) (f .last .1 .1 .1 .1 .1 .0))
     (fire-as-found (a .t1) (a .q) (k .reader-at .result) (r .readers .result) (r .readers .ensures) (k .reader-at .ensures) (d .pre .sheet)
     (decode (a .state) (now (a .store)))) (f .ensures)
 

@@ -9,6 +9,7 @@ use denote.Ref.{now}
 use Rattle.format.specs.Head.{VARIABLES}
 use Rattle.store.specs.Store.{QUEUES}
 use Rattle.sheet.specs.Sheet.{viewSheet}
+use Rattle.machine.specs.Working.{stateWith}
 use Rattle.machine.proofs.Good.{tested-of-good}
 use Rattle.calls.proofs.Found.{fit-as-found}
 use Rattle.calls.proofs.Running.{Running, running-start, running-turn, running-end}
@@ -16,10 +17,11 @@ use Rattle.calls.proofs.run_known.Statement.{statement}
 use Rattle.calls.proofs.run_known.Tie as tie
 
 abbrev Inv-loop : tie.InvT-loop
-Inv-loop store₀ list t rs st₀ fired₀ skipped₀ k₀ store st fired skipped k = Running t st₀ store₀ list st store fired skipped k
+Inv-loop store₀ list t rs counts₀ vars₀ fired₀ skipped₀ k₀ store counts vars fired skipped k =
+    Running t (stateWith counts₀ vars₀) store₀ list (stateWith counts vars) store fired skipped k
 
 abbrev μ-loop : tie.MeasureT-loop
-μ-loop store₀ list t rs st₀ fired₀ skipped₀ k₀ store st fired skipped k = length list - k
+μ-loop store₀ list t rs counts₀ vars₀ fired₀ skipped₀ k₀ store counts vars fired skipped k = length list - k
 
 module _ (d : tie.Start Inv-loop μ-loop) where
   many : length (d .args .state .counts) ≡ QUEUES
@@ -33,7 +35,7 @@ readers-requires c κs = c .before .pre .sheet
 
 loop-holds : tie.Need-loop-holds Inv-loop μ-loop
 loop-holds c =
-    let d = c .before .before in
+    let d = c .before .before .before .before in
     running-start (d .args .t1) (d .args .state) (now (d .args .store)) (now (d .args .list)) (d .pre) (many d) (wide d)
 
 shared-slice-read-q : tie.Need-shared-slice-read-q Inv-loop μ-loop
@@ -50,11 +52,14 @@ element-copy-out-o c = omega arith
 
 fire-found-requires : tie.Need-fire-found-requires Inv-loop μ-loop
 fire-found-requires c κs =
-    let i = c .before .before in
+    let i = c .before .before .before .before in
     let h = i .before .before .before in
-    let d = h .before .before .before in
-    fit-as-found (d .args .t1) (getD (now (d .args .list)) (h .loop .k) 0) (i .reader-at .result) (h .before .readers .result)
-    (h .before .readers .ensures) (i .reader-at .ensures) (h .loop .st) (h .loop .store) (h .loop .inv .stands)
+    let r = h .before .before .before in
+    let d = r .before .before in (
+      h .loop .inv .counts,
+      fit-as-found (d .args .t1) (getD (now (d .args .list)) (h .loop .k) 0) (i .reader-at .result) (r .readers .result)
+          (r .readers .ensures) (i .reader-at .ensures) (stateWith (h .loop .counts) (h .loop .vars)) (h .loop .store) (h .loop .inv .stands),
+    )
 
 one-if-done-requires : tie.Need-one-if-done-requires Inv-loop μ-loop
 one-if-done-requires c κs = search needs
@@ -76,28 +81,29 @@ loop-less c = omega arith
 
 loop-again : tie.Need-loop-again Inv-loop μ-loop
 loop-again c =
-    let f = c .before .before .before in
-    let i = f .before .before .before in
+    let f = c .before .before .fire-found in
+    let i = c .before .before .before .before .before .before .before in
     let h = i .before .before .before in
-    let d = h .before .before .before in
-    running-turn (d .args .t1) (d .args .state) (now (d .args .store)) (now (d .args .list)) (h .loop .st) (h .loop .store)
+    let r = h .before .before .before in
+    let d = r .before .before in
+    running-turn (d .args .t1) (d .args .state) (now (d .args .store)) (now (d .args .list)) (stateWith (h .loop .counts) (h .loop .vars)) (h .loop .store)
     (h .loop .fired) (h .loop .skipped) (h .loop .k) (h .loop .inv)
-    (h .before .readers .result) (i .reader-at .result) (h .before .readers .ensures) (i .reader-at .ensures)
-    (f .fire-found .result .answer) (f .fire-found .result .state) (f .fire-found .last .1 .1 .1 .1 .0) (c .before .one-if-done .result)
-    (omega arith) (f .fire-found .ensures) (c .before .one-if-done .ensures .0)
+    (r .readers .result) (i .reader-at .result) (r .readers .ensures) (i .reader-at .ensures)
+    (f .result) (stateWith (f .last .1 .1 .1 .0) (f .last .1 .1 .1 .1 .0)) (f .last .1 .1 .1 .1 .1 .0) (c .one-if-done .result)
+    (omega arith) (f .ensures) (c .one-if-done .ensures .0)
 
 same-length : tie.Need-same-length Inv-loop μ-loop
 same-length c =
     let h = c .before in
-    let d = h .before .before .before in
-    tested-of-good (viewSheet (d .args .t1)) (h .loop .st) (h .loop .store) (h .loop .inv .stands .numbers) .size
+    let d = h .before .before .before .before .before in
+    tested-of-good (viewSheet (d .args .t1)) (stateWith (h .loop .counts) (h .loop .vars)) (h .loop .store) (h .loop .inv .stands .numbers) .size
     ∙ sym (tested-of-good (viewSheet (d .args .t1)) (d .args .state) (now (d .args .store)) (d .pre .numbers) .size)
 
 returns : tie.Need-returns Inv-loop μ-loop
 returns c =
     let h = c .before in
-    let d = h .before .before .before in
-    running-end (d .args .t1) (d .args .state) (now (d .args .store)) (now (d .args .list)) (h .loop .st) (h .loop .store)
+    let d = h .before .before .before .before .before in
+    running-end (d .args .t1) (d .args .state) (now (d .args .store)) (now (d .args .list)) (stateWith (h .loop .counts) (h .loop .vars)) (h .loop .store)
     (h .loop .fired) (h .loop .skipped) (h .loop .k) (h .loop .inv) (omega arith)
 
 pub run-known-spec : {M : Type 1} → statement M

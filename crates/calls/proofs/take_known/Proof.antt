@@ -66,7 +66,7 @@ first-requires c κs =
 
 take-one-requires : tie.Need-take-one-requires
 take-one-requires c κs =
-    let e = c .before .before .before .before .before in
+    let e = c .before .before .before .before .before .before in
     (whole (entry e), omega (arith, below e), omega arith)
 
 same-length : tie.Need-same-length
@@ -75,14 +75,14 @@ same-length c = search needs
 returns-3 : tie.Need-returns-3
 returns-3 c =
     let k = c .before .before .take-one in
-    let f = c .before .before .before .before .first in
-    let n = c .before .before .before .before .before .before in
+    let f = c .before .before .before .before .before .first in
+    let n = c .before .before .before .before .before .before .before in
     let e = n .before .before in
     let o = e .before .is-output in
     let d = entry e in
     let a = d .args in
     takes-first (a .t) (a .state) (now (a .store)) (a .q) (d .pre) (many d) (wide d) (o .result) (o .ensures) (not-false _ (e .if1 .left))
-    (omega (arith, n .if2 .left)) (f .result) (k .result) (k .last .1 .0) (f .ensures) (k .ensures)
+    (omega (arith, n .if2 .left)) (f .result) (k .last .0) (k .last .1 .0) (f .ensures) (k .ensures)
 
 pub take-known-spec : {M : Type 1} → statement M
 take-known-spec =

@@ -1,6 +1,6 @@
--- `lines::put_items` meets its contract: the lines of the first i items are put.
+-- `lines::put_items` meets its contract: the lines of the first n - left items are put.
 -- Assumes nothing.
-use mathlib.Core.Path.{_≡_, ap, sym, _∙_}
+use mathlib.Core.Path.{_≡_, ap, sym, subst, _∙_}
 use mathlib.Core.List.{List, _++_}
 use Prim.Native.Nat.{ℕ, _+_, _*_, _-_, _≤_}
 use native.Mathlib.Omega.{arith}
@@ -17,8 +17,15 @@ use Rattle.lines.proofs.LineLaws.{queue-more}
 use Rattle.lines.proofs.put_items.Statement.{statement}
 use Rattle.lines.proofs.put_items.Tie as tie
 
+-- the lines of the first k items
+abbrev Items : ℕ → ℕ → List ℤ → List ℕ → ℕ → List ℕ → ℕ → Type 0
+Items k q p s at t end = Piece (LINE * k) (queueLines q (itemsOf k p)) s at t end
+
+same-items : (k j q : ℕ) (p : List ℤ) {s t : List ℕ} {at end : ℕ} → k ≡ j → Items k q p s at t end → Items j q p s at t end
+same-items k j q p {s = s} {t = t} {at = at} {end = end} e h = subst (λ (i : ℕ). Items i q p s at t end) e h
+
 -- no item, one more, and the part of an item
-items-none : (q : ℕ) (s : List ℕ) (p : List ℤ) (at : ℕ) → Piece (LINE * 0) (queueLines q (itemsOf 0 p)) s at s at
+items-none : (q : ℕ) (s : List ℕ) (p : List ℤ) (at : ℕ) → Items 0 q p s at s at
 unfolding itemsOf
 items-none q s p at = pieces-none LINE s at
 
@@ -33,22 +40,27 @@ item-long : (p : List ℤ) (i : ℕ) → 4 * i + 4 ≤ length p → length (take
 item-long p i h = length-take-le (4 * i + 4 - 4 * i) (drop (4 * i) p) (omega (arith, length-drop (4 * i) p)) ∙ item-wide i
 
 abbrev Inv-loop : tie.InvT-loop
-Inv-loop s₀ at q n part end₀ i₀ s end i = (i ≤ n) × Piece (LINE * i) (queueLines q (itemsOf i part)) s₀ at s end
+Inv-loop s₀ at q n part end₀ left₀ s end left = (left ≤ n) × Items (n - left) q part s₀ at s end
 
 abbrev μ-loop : tie.MeasureT-loop
-μ-loop s₀ at q n part end₀ i₀ s end i = n - i
+μ-loop s₀ at q n part end₀ left₀ s end left = left
 
 loop-holds : tie.Need-loop-holds Inv-loop μ-loop
-loop-holds c = (omega arith, items-none _ _ (now (c .before .args .part)) _)
+loop-holds c =
+    let d = c .before in
+    (omega arith, same-items 0 (d .args .n - d .args .n) (d .args .q) (now (d .args .part)) (omega arith) (items-none _ _ _ _))
+
+sub-i : tie.Need-sub-i Inv-loop μ-loop
+sub-i c = omega (arith, c .before .loop .inv .0, c .loop-test .taken)
 
 mul-from : tie.Need-mul-from Inv-loop μ-loop
-mul-from c = omega (arith, c .before .before .before .pre .1, c .loop-test .taken)
+mul-from c = omega (arith, c .before .before .before .pre .1, c .before .loop .inv .0)
 
 add-to : tie.Need-add-to Inv-loop μ-loop
-add-to c = omega (arith, c .before .before .before .pre .1, c .loop-test .taken)
+add-to c = omega (arith, c .before .before .before .pre .1, c .before .loop .inv .0)
 
 mul-put-item : tie.Need-mul-put-item Inv-loop μ-loop
-mul-put-item c = omega (arith, c .before .before .before .before .pre .1, c .before .loop-test .taken)
+mul-put-item c = omega (arith, c .before .before .before .before .pre .1, c .before .before .loop .inv .0)
 
 sub-put-item : tie.Need-sub-put-item Inv-loop μ-loop
 sub-put-item c = omega arith
@@ -59,21 +71,18 @@ part-put-item-start c = search needs
 part-put-item-end : tie.Need-part-put-item-end Inv-loop μ-loop
 part-put-item-end c =
     let d = c .before .before .before .before in
-    omega (arith, d .pre .1, d .pre .2, c .before .loop-test .taken)
+    omega (arith, d .pre .1, d .pre .2, c .before .before .loop .inv .0, c .before .loop-test .taken)
 
 put-item-requires : tie.Need-put-item-requires Inv-loop μ-loop
 put-item-requires c κs =
     let l = c .before .before .before .loop in
     let d = c .before .before .before .before .before in (
-      omega (arith, l .inv .1 .most, l .inv .1 .size, d .pre .0, c .before .before .loop-test .taken),
-      item-long (now (d .args .part)) (l .i) (omega (arith, d .pre .1, d .pre .2, c .before .before .loop-test .taken)),
+      omega (arith, l .inv .0, l .inv .1 .most, l .inv .1 .size, d .pre .0, c .before .before .loop-test .taken),
+      item-long (now (d .args .part)) _ (part-put-item-end (c .before)),
     )
 
-add-i : tie.Need-add-i Inv-loop μ-loop
-add-i c =
-    let at-test = c .before .before .before .before .before in
-    let d = at-test .before .before .before in
-    omega (arith, d .pre .1, at-test .loop-test .taken)
+sub-left : tie.Need-sub-left Inv-loop μ-loop
+sub-left c = omega (arith, c .before .before .before .before .before .loop-test .taken)
 
 loop-less : tie.Need-loop-less Inv-loop μ-loop
 loop-less c = omega (arith, c .before .before .before .before .before .loop-test .taken)
@@ -83,11 +92,13 @@ loop-again c =
     let at-put-item = c .before .before in
     let at-test = at-put-item .before .before .before in
     let at-loop = at-test .before in
-    let at-x = at-loop .before .before in
+    let d = at-loop .before .before in
     let l = at-loop .loop in
-    let d = at-x in (
-      omega (arith, at-test .loop-test .taken),
-      pieces-more LINE (l .i) _ (l .inv .1) (piece-of (at-put-item .put-item .ensures)) (items-more (d .args .q) (l .i) (now (d .args .part))),
+    let i = d .args .n - l .left in
+    let h : i + 1 ≡ d .args .n - (l .left - 1) = omega (arith, l .inv .0, at-test .loop-test .taken) in (
+      omega (arith, l .inv .0),
+      same-items (i + 1) (d .args .n - (l .left - 1)) (d .args .q) (now (d .args .part)) h
+          (pieces-more LINE i _ (l .inv .1) (piece-of (at-put-item .put-item .ensures)) (items-more (d .args .q) i (now (d .args .part)))),
     )
 
 same-length : tie.Need-same-length Inv-loop μ-loop
@@ -97,8 +108,9 @@ returns : tie.Need-returns Inv-loop μ-loop
 returns c =
     let l = c .before .loop in
     let d = c .before .before .before in
-    let e : l .i ≡ d .args .n = omega arith in
-    pieces-all LINE (l .i) (d .args .n) e (ap (λ (k : ℕ). queueLines (d .args .q) (itemsOf k (now (d .args .part)))) e) (l .inv .1)
+    let e : d .args .n - l .left ≡ d .args .n = omega arith in
+    pieces-all LINE (d .args .n - l .left) (d .args .n) e
+    (ap (λ (k : ℕ). queueLines (d .args .q) (itemsOf k (now (d .args .part)))) e) (l .inv .1)
 
 pub put-items-spec : {M : Type 1} → statement M
 put-items-spec =
@@ -107,6 +119,7 @@ put-items-spec =
     Inv-loop
     μ-loop
     loop-holds
+    sub-i
     mul-from
     add-to
     mul-put-item
@@ -114,7 +127,7 @@ put-items-spec =
     part-put-item-start
     part-put-item-end
     put-item-requires
-    add-i
+    sub-left
     loop-less
     loop-again
     same-length

@@ -1,78 +1,74 @@
--- `fire_operator` meets its contract: the refusal of the attempt, or the item taken and put as the effect says.
+-- `fire_operator` meets its contract: 10 where the queue is empty, the refusal of the attempt, or the item taken and put as the effect says.
 -- Assumes nothing.
-use mathlib.Core.Path.{_≡_}
+use mathlib.Core.Path.{_≡_, refl}
 use lib.ListN.{length}
 use denote.Ref.{now}
-use borrow.Author.Needs.{needs}
+use Rattle.operator.specs.Memory.{view}
 use Rattle.store.specs.Store.{QUEUES}
-use Rattle.machine.proofs.Trying.{refused-of-number, clear, room-left, fired, refused-answers}
+use Rattle.machine.specs.Working.{stateWith}
+use Rattle.machine.proofs.Trying.{fire-empty, refused-of-number, room-left, fired, refused-answers}
+use borrow.Author.Needs.{needs}
 use Rattle.machine.proofs.fire_operator.Statement.{statement}
 use Rattle.machine.proofs.fire_operator.Tie as tie
 
-module _ (d : tie.Start) where
-  many : length (d .args .state .counts) ≡ QUEUES
-  many = search needs
+element-copy-out-if1 : tie.Need-element-copy-out-if1
+element-copy-out-if1 c = search needs
+
+returns : tie.Need-returns
+returns c =
+    let a = c .before .before .args in
+    refused-answers (stateWith (now (a .counts)) (now (a .vars))) (now (a .store)) _ 10 (fire-empty (view (a .o)) (a .q) (stateWith (now (a .counts)) (now (a .vars))) (now (a .store)) (c .if1 .taken)) _ _ refl refl
 
 try-operator-requires : tie.Need-try-operator-requires
 try-operator-requires c κs = search needs
 
-no-requires : tie.Need-no-requires
-no-requires c κs = search needs
-
 same-length : tie.Need-same-length
 same-length c = search needs
 
-returns : tie.Need-returns
-returns c =
-    let t = c .before .before .try-operator in
-    let d = c .before .before .before .before in
+returns-2 : tie.Need-returns-2
+returns-2 c =
+    let t = c .before .try-operator in
+    let d = c .before .before .before .before .before .before .before in
     let a = d .args in
-    let e = refused-of-number (a .o) (a .q) (a .state) (now (a .store)) (many d) (d .pre) (t .result) (t .ensures) (c .before .if1 .taken) in
-    refused-answers (a .state) (now (a .store)) _ _ e _ _ (c .no .ensures .0) (c .no .ensures .1)
+    let e = refused-of-number (a .o) (a .q) (stateWith (now (a .counts)) (now (a .vars))) (now (a .store)) (d .pre .0) (d .pre .1) (t .result) (t .ensures) (c .if2 .taken) in
+    refused-answers (stateWith (now (a .counts)) (now (a .vars))) (now (a .store)) _ _ e _ _ refl refl
 
 take-one-requires : tie.Need-take-one-requires
-take-one-requires c κs =
-    let i = c .before .before .before in
-    let t = i .before .try-operator in
-    let d = i .before .before .before in
-    let a = d .args in
-    let p = clear (a .o) (a .q) (a .state) (now (a .store)) (many d) (d .pre) (t .result) (t .ensures) (i .if1 .left) in
-    (search needs, d .pre .queue, p .some)
+take-one-requires c κs = search needs
 
 put-all-requires : tie.Need-put-all-requires
 put-all-requires c κs =
-    let k = c .before .before .before in
-    let i = k .before .before .before .before in
+    let i = c .before .before .before .before .before .before .before .before in
     let t = i .before .try-operator in
-    let d = i .before .before .before in
+    let d = c .before .before .before .before .before .before .before .before .before .before .before .before .before .before .before in
     let a = d .args in (
       search needs,
-      room-left (a .o) (a .q) (a .state) (now (a .store)) (many d) (d .pre) (t .result) (t .ensures) (i .if1 .left) _ _ (k .take-one .ensures),
+      room-left (a .o) (a .q) (stateWith (now (a .counts)) (now (a .vars))) (now (a .store)) (d .pre .0) (d .pre .1) (t .result) (t .ensures) (i .if2 .left) _ _ (c .before .before .before .before .before .take-one .ensures),
     )
 
 same-length-2 : tie.Need-same-length-2
 same-length-2 c = search needs
 
-returns-2 : tie.Need-returns-2
-returns-2 c =
-    let m = c .before .before in
-    let k = m .before .before .before .before in
-    let i = k .before .before .before .before in
+returns-3 : tie.Need-returns-3
+returns-3 c =
+    let p = c .before .before .put-all in
+    let i = c .before .before .before .before .before .before .before .before .before .before .before in
     let t = i .before .try-operator in
-    let d = i .before .before .before in
+    let d = c .before .before .before .before .before .before .before .before .before .before .before .before .before .before .before .before .before .before in
     let a = d .args in
-    fired (a .o) (a .q) (a .state) (now (a .store)) (many d) (d .pre) (t .result) (t .ensures) (i .if1 .left)
-    _ (m .put-all .result) (m .put-all .last .1 .0) (k .take-one .ensures) (m .put-all .ensures)
+    fired (a .o) (a .q) (stateWith (now (a .counts)) (now (a .vars))) (now (a .store)) (d .pre .0) (d .pre .1) (t .result) (t .ensures) (i .if2 .left)
+    _ (p .last .0) (p .last .1 .0) (c .before .before .before .before .before .before .before .before .take-one .ensures) (p .ensures)
 
 pub fire-operator-spec : {M : Type 1} → statement M
 fire-operator-spec =
     tie.close
     (tie.spec
-    try-operator-requires
-    no-requires
-    same-length
+    element-copy-out-if1
     returns
+    try-operator-requires
+    same-length
+    returns-2
     take-one-requires
     put-all-requires
     same-length-2
-    returns-2)
+    returns-3)

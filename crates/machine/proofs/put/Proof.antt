@@ -3,13 +3,17 @@
 use mathlib.Core.Path.{ap}
 use Prim.Native.Nat.{_+_}
 use lib.ListN.{getD, set}
-use borrow.Author.Needs.{needs}
+use denote.Ref.{now}
 use Rattle.machine.specs.Working.{raw}
+use borrow.Author.Needs.{needs}
 use Rattle.machine.proofs.put.Statement.{statement}
 use Rattle.machine.proofs.put.Tie as tie
+use Rattle.machine.proofs.put.Reads as reads
+use Rattle.machine.proofs.put.Lts as lts
+use Rattle.store.proofs.push.Reads as push-reads
 
-array-read-n : tie.Need-array-read-n
-array-read-n c = search needs
+element-copy-out-n : tie.Need-element-copy-out-n
+element-copy-out-n c = search needs
 
 cast-push : tie.Need-cast-push
 cast-push c = search needs
@@ -17,21 +21,28 @@ cast-push c = search needs
 push-requires : tie.Need-push-requires
 push-requires c κs = search needs
 
-add-c : tie.Need-add-c
-add-c c = search needs
+add-counts : tie.Need-add-counts
+add-counts c = search needs
 
-array-write-c : tie.Need-array-write-c
-array-write-c c = search needs
+element-write-counts : tie.Need-element-write-counts
+element-write-counts c = search needs
 
 same-length : tie.Need-same-length
 same-length c = search needs
 
 returns : tie.Need-returns
 returns c =
-    let a = c .before .before .before .args in
-    ap (raw (set (a .t1) (a .q) (getD (a .t1) (a .q) 0 + 1))) (c .before .push .ensures)
+    let a = c .before .before .before .before .args in
+    ap (raw (set (now (a .counts)) (a .q) (getD (now (a .counts)) (a .q) 0 + 1))) (c .before .push .ensures)
 
 pub put-spec : {M : Type 1} → statement M
 put-spec =
     tie.close
-    (tie.spec array-read-n cast-push push-requires add-c array-write-c same-length returns)
+    (tie.spec
+    element-copy-out-n
+    cast-push
+    push-requires
+    add-counts
+    element-write-counts
+    same-length
+    returns)

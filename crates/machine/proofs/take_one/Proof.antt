@@ -3,31 +3,36 @@
 use mathlib.Core.Path.{ap}
 use Prim.Native.Nat.{_-_}
 use lib.ListN.{getD, set}
-use borrow.Author.Needs.{needs}
+use denote.Ref.{now}
 use Rattle.machine.specs.Working.{raw}
+use borrow.Author.Needs.{needs}
 use Rattle.machine.proofs.take_one.Statement.{statement}
 use Rattle.machine.proofs.take_one.Tie as tie
+use Rattle.machine.proofs.take_one.Reads as reads
+use Rattle.machine.proofs.take_one.Lts as lts
+use Rattle.store.proofs.take.Reads as take-reads
 
 take-requires : tie.Need-take-requires
 take-requires c κs = search needs
 
-array-read-n : tie.Need-array-read-n
-array-read-n c = search needs
+element-copy-out-n : tie.Need-element-copy-out-n
+element-copy-out-n c = search needs
 
-sub-c : tie.Need-sub-c
-sub-c c = search needs
+sub-counts : tie.Need-sub-counts
+sub-counts c = search needs
 
-array-write-c : tie.Need-array-write-c
-array-write-c c = search needs
+element-write-counts : tie.Need-element-write-counts
+element-write-counts c = search needs
 
 same-length : tie.Need-same-length
 same-length c = search needs
 
 returns : tie.Need-returns
 returns c =
-    let a = c .before .before .before .args in
-    ap (raw (set (a .t1) (a .q) (getD (a .t1) (a .q) 0 - 1))) (c .before .take .ensures)
+    let a = c .before .before .before .before .args in
+    ap (raw (set (now (a .counts)) (a .q) (getD (now (a .counts)) (a .q) 0 - 1))) (c .before .before .take .ensures)
 
 pub take-one-spec : {M : Type 1} → statement M
 take-one-spec =
-    tie.close (tie.spec take-requires array-read-n sub-c array-write-c same-length returns)
+    tie.close
+    (tie.spec take-requires element-copy-out-n sub-counts element-write-counts same-length returns)

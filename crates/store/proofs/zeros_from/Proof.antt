@@ -1,6 +1,7 @@
--- `store::zeros_from` meets its contract: what is left to test is what was asked, and a number that is not 0 decides it.
-use mathlib.Core.Path.{_≡_, refl, sym, _∙_}
-use mathlib.Core.Bool.{Bool, true, false, _&&_}
+-- `store::zeros_from` meets its contract: what was asked is what was seen so far and what is left to test.
+use mathlib.Core.Path.{_≡_, refl, sym, ap, _∙_}
+use mathlib.Core.Bool.{Bool, true, false, cond, _&&_}
+use mathlib.Core.Logic.{⊎-elim}
 use mathlib.Core.List.{List}
 use Prim.Native.Nat.{ℕ, zero, suc, _+_, _-_, _^_, _≤_, _<_}
 use native.Mathlib.Numerals.{add-one}
@@ -34,11 +35,26 @@ test-of-other (pos zero) f = absurd (f refl)
 test-of-other (pos (suc n)) f = refl
 test-of-other (negsuc n) f = refl
 
+and-false : (b : Bool) → (b && false) ≡ false
+and-false true = refl
+and-false false = refl
+
+and-true : (b : Bool) → (b && true) ≡ b
+and-true true = refl
+and-true false = refl
+
+-- one number more: what was seen so far, and that number's test
+zeros-next : (p : List ℤ) (from i : ℕ) (clean next b : Bool) → i < length p → zerosFrom p from ≡ (clean && zerosFrom p i) →
+    isZero (getD p i (pos 0)) ≡ b → next ≡ cond b clean false → zerosFrom p from ≡ (next && zerosFrom p (i + 1))
+zeros-next p from i clean next true h e t n = e ∙ ap (λ (x : Bool). clean && x) (zeros-step p i true h t) ∙ ap (λ (x : Bool). x && zerosFrom p (i + 1)) (sym n)
+zeros-next p from i clean next false h e t n =
+    e ∙ ap (λ (x : Bool). clean && x) (zeros-step p i false h t) ∙ and-false clean ∙ ap (λ (x : Bool). x && zerosFrom p (i + 1)) (sym n)
+
 abbrev Inv-loop : tie.InvT-loop
-Inv-loop part from i₀ i = (i ≤ length part) × (zerosFrom part from ≡ zerosFrom part i)
+Inv-loop part from clean₀ i₀ clean i = (i ≤ length part) × (zerosFrom part from ≡ (clean && zerosFrom part i))
 
 abbrev μ-loop : tie.MeasureT-loop
-μ-loop part from i₀ i = length part - i
+μ-loop part from clean₀ i₀ clean i = length part - i
 
 loop-holds : tie.Need-loop-holds Inv-loop μ-loop
 loop-holds c = (search needs, refl)
@@ -48,12 +64,6 @@ mul-v c = search needs
 
 shared-slice-copy-out-v : tie.Need-shared-slice-copy-out-v Inv-loop μ-loop
 shared-slice-copy-out-v c = search needs
-
-returns : tie.Need-returns Inv-loop μ-loop
-returns c =
-    let p = now (c .before .before .before .before .args .part) in
-    let l = c .before .before .before .loop in
-    sym (l .inv .1 ∙ zeros-step p (l .i) false (omega arith) (test-of-other (getD p (l .i) (pos 0)) (c .if1 .taken)))
 
 add-i : tie.Need-add-i Inv-loop μ-loop
 add-i c = search needs
@@ -65,10 +75,20 @@ loop-again : tie.Need-loop-again Inv-loop μ-loop
 loop-again c =
     let p = now (c .before .before .before .before .args .part) in
     let l = c .before .before .before .loop in
-    (omega arith, l .inv .1 ∙ zeros-step p (l .i) true (omega arith) (test-of-zero (getD p (l .i) (pos 0)) (c .before .v .given) (c .if1 .left)))
+    let from = c .before .before .before .before .args .from in
+    let v = getD p (l .i) (pos 0) in (
+      omega arith,
+      ⊎-elim
+          (λ w. zeros-next p from (l .i) (l .clean) (c .if1 .clean) false (omega arith) (l .inv .1) (test-of-other v (w .0 .taken)) (w .1))
+          (λ w. zeros-next p from (l .i) (l .clean) (c .if1 .clean) true (omega arith) (l .inv .1) (test-of-zero v (c .before .v .given) (w .0 .left)) (w .1))
+          (c .if1 .came),
+    )
 
-returns-2 : tie.Need-returns-2 Inv-loop μ-loop
-returns-2 c = sym (c .before .loop .inv .1 ∙ zeros-end (now (c .before .before .args .part)) (c .before .loop .i) (c .loop-test .left))
+returns : tie.Need-returns Inv-loop μ-loop
+returns c =
+    let l = c .before .loop in
+    let p = now (c .before .before .args .part) in
+    sym (l .inv .1 ∙ ap (λ (x : Bool). l .clean && x) (zeros-end p (l .i) (c .loop-test .left)) ∙ and-true (l .clean))
 
 pub zeros-from-spec : {M : Type 1} → statement M
 zeros-from-spec =
@@ -79,8 +99,7 @@ zeros-from-spec =
     loop-holds
     mul-v
     shared-slice-copy-out-v
-    returns
     add-i
     loop-less
     loop-again
-    returns-2)
+    returns)

@@ -1,11 +1,11 @@
--- `trial::run_list` meets its contract: the runner's run and ready set, in the words of a trial.
+-- `trial::run_list` meets its contract: the run and the ready set from numbers that stand, in the words of a trial.
 -- Assumes nothing.
 use mathlib.Core.Path.{_≡_}
 use lib.ListN.{length}
 use denote.Ref.{now}
 use Rattle.format.specs.Head.{VARIABLES}
 use Rattle.store.specs.Store.{QUEUES}
-use Rattle.trial.proofs.Running.{run-tells}
+use Rattle.trial.proofs.Running.{stands-then, run-tells}
 use borrow.Author.Needs.{needs}
 use Rattle.trial.proofs.run_list.Statement.{statement}
 use Rattle.trial.proofs.run_list.Tie as tie
@@ -17,21 +17,25 @@ module _ (d : tie.Start) where
   wide : length (d .args .state .vars) ≡ VARIABLES
   wide = search needs
 
-run-requires : tie.Need-run-requires
-run-requires c κs = search needs
+run-known-requires : tie.Need-run-known-requires
+run-known-requires c κs = search needs
 
-ready-requires : tie.Need-ready-requires
-ready-requires c κs = search needs
+ready-known-requires : tie.Need-ready-known-requires
+ready-known-requires c κs =
+    let at-run = c .before .before .before in
+    let d = at-run .before .before .before in
+    stands-then (d .args .t) (d .args .state) (now (d .args .store)) (now (d .args .list)) (d .pre) (many d) (wide d)
+    (at-run .run-known .ensures)
 
 same-length : tie.Need-same-length
 same-length c = search needs
 
 returns : tie.Need-returns
 returns c =
-    let at-run = c .before .before .before .before .before in
+    let at-run = c .before .before .before .before in
     let d = at-run .before .before .before in
     run-tells (d .args .t) (d .args .state) (now (d .args .store)) (now (d .args .list)) (d .pre) (many d) (wide d)
-    (at-run .run .ensures) (c .before .ready .result) (c .before .ready .ensures)
+    (at-run .run-known .ensures) (c .ready-known .result) (c .ready-known .ensures)
 
 pub run-list-spec : {M : Type 1} → statement M
-run-list-spec = tie.close (tie.spec run-requires ready-requires same-length returns)
+run-list-spec = tie.close (tie.spec run-known-requires ready-known-requires same-length returns)
