@@ -22,6 +22,11 @@ use Rattle.machine.specs.Numbers.{good}
 use Rattle.rewriter.specs.Rewrite.{fuse, split, reorder}
 use Rattle.rewriter.specs.Calls.{fuseOf, splitOf, reorderOf}
 use Rattle.machine.specs.Calls.{fireOf, feedOf, takeOf, runOf, readyOf}
+use Rattle.text.specs.Text.{digits, natural, integer}
+use Rattle.trial.specs.Records.{itemAt, isFeed, feedNext, feedsFrom, firingNumber, firingsFrom}
+use Rattle.trial.specs.Trial.{outputsAt, trialOf}
+use Rattle.lines.specs.Lines.{itemLine, variableLine, refusalLine, countsLine}
+use Rattle.report.specs.Print.{printed}
 use Rattle.cases.specs.Case.{Rights}
 use Rattle.cases.specs.Table.{table}
 
@@ -35,8 +40,9 @@ unfolding shortOf shortBytes bitsOf bitsBytes funcOf stepNames stepVariable unus
     vacant four five six seven judgeBy whole kindOf recordBytes cut bodyGood taken opBytes headGood headNumber checkFrom ending checkOf readFrom frontOf
     readOf writeOf feedGood worstOf part withPart fields firstOf encodeItems queuePart storeOf itemsOf queuesOf quietQueue quietFrom does stepped effect
     waits cursorGood commit fireFrom fireFirst feedM takeM runFrom readySet good fireOf feedOf takeOf runOf readyOf fuse split reorder fuseOf splitOf reorderOf
+    digits natural integer itemAt isFeed feedNext feedsFrom firingNumber firingsFrom outputsAt trialOf itemLine variableLine refusalLine countsLine printed
 cases =
-    refl & refl & refl & refl & refl & refl & refl & refl & (refl, refl) & (refl, refl) & refl & refl &
+    refl & refl & refl & refl & refl & refl & refl & refl & refl & refl & refl & refl & refl & refl & refl & (refl, refl) & (refl, refl) & refl & refl &
     refl & refl & refl & refl & refl & refl & (refl, refl) & refl & refl & refl & refl & refl & refl & refl &
     refl & refl & refl & refl & refl & refl & refl & refl & refl & refl & refl & refl & refl & refl & refl &
     refl & refl & refl & refl & refl & refl & refl & refl & tt

@@ -95,3 +95,8 @@ pub use Rattle.order.proofs.Reaches.{reaches-rest}
 pub use Rattle.order.proofs.Instance.{instance-met, instance}
 -- what goes wrong without the conditions: the paper's four slips, and a sheet that is not calm
 pub use Rattle.order.proofs.Slips.{slips-show, rows-are-fed, rewritings-refused, accepted-not-calm, dropping-calm, gather-waits}
+-- what bench prints: it fits in TEXT bytes, and two outcomes that meet the report's contract are equal
+pub use Rattle.report.proofs.Fits.{text-fits}
+pub use Rattle.report.proofs.OneOutcome.{report-one}
+-- over-long input is 18 at record 0
+pub use Rattle.report.proofs.LongInput.{long-refused}

@@ -15,6 +15,7 @@ use Rattle.store.specs.declared.Item.{Item}
 use Rattle.machine.specs.Machine.{Machine}
 use Rattle.machine.specs.Numbers.{stateOf, storeIn}
 use Rattle.rewriter.specs.Calls.{fuseOf, splitOf, reorderOf}
+use Rattle.report.specs.Print.{textOf}
 use Rattle.machine.specs.Calls.{Call, feedOf, takeOf, fireOf, runOf, readyOf}
 
 pub data Case : Type 0 where
@@ -30,6 +31,7 @@ pub data Case : Type 0 where
   fuses : (sheet : Sheet) (operator : ℕ) (answer : Paper) (after : Sheet) → Case
   splits : (sheet : Sheet) (operator ways : ℕ) (answer : Paper) (after : Sheet) → Case
   reorders : (sheet : Sheet) (operator : ℕ) (answer : Paper) (after : Sheet) → Case
+  prints : (input text : List ℕ) → Case
   readies : (sheet : Sheet) (before : Machine) (answer : Paper) (set : ℕ) → Case
 
 -- a call's answer and the numbers that it leaves
@@ -49,6 +51,7 @@ Right (runs t m l p fired skipped m') = runOf t (stateOf m) (storeIn m) l ≡ re
 Right (fuses t i p u) = fuseOf t i ≡ record { answer = p; sheet = u }
 Right (splits t i k p u) = splitOf t i k ≡ record { answer = p; sheet = u }
 Right (reorders t i p u) = reorderOf t i ≡ record { answer = p; sheet = u }
+Right (prints s text) = textOf s ≡ text
 Right (readies t m p set) = (readyOf t (stateOf m) (storeIn m) .answer ≡ p) × (readyOf t (stateOf m) (storeIn m) .set ≡ set)
 
 -- every row of a table

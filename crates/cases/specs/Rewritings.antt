@@ -6,7 +6,6 @@ use Rattle.step.specs.declared.Func.the-variants.{Keep}
 use Rattle.step.specs.declared.Step.{Step}
 use Rattle.operator.specs.Op.{Op, line, double, deal, gather}
 use Rattle.sheet.specs.declared.Sheet.{Sheet}
-use Rattle.sheet.specs.Sheet.{memorySheet}
 use Rattle.order.specs.Instance.{sheetOf, keepTwo, lessFive}
 use Rattle.cases.specs.Firings.{addOne}
 

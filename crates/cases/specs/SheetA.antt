@@ -1,8 +1,9 @@
--- Sheet A, its bytes and the sheet that they hold; and the sheet of Latest and Stamp on one variable.
-use mathlib.Core.List.{List, [], _∷_}
+-- Sheet A, its bytes and the sheet that they hold, and a bench input with its feeds and firings; the sheet of Latest and Stamp on one variable.
+use mathlib.Core.List.{List, [], _∷_, _++_}
 use Prim.Native.Nat.{ℕ}
 use lib.IntN.{pos}
 use lib.ListN.{replicate}
+use Rattle.lists.specs.Lists.{chain}
 use Rattle.step.specs.Step.{noStep}
 use Rattle.step.specs.declared.Func.the-variants.{Stamp}
 use Rattle.step.specs.declared.Step.{Step}
@@ -17,6 +18,23 @@ bytesA =
     0x04 ∷ 0x00 ∷ 0x01 ∷ 0x00 ∷ 0x01 ∷ 0x03 ∷ 0x00 ∷ 0x02
     ∷ 0x0e ∷ 0x00 ∷ 0x02 ∷ 0x00 ∷ 0x00 ∷ 0x01 ∷ 0x01 ∷ 0xff ∷ 0x00 ∷ 0x00 ∷ 0x02 ∷ 0x00 ∷ 0x00 ∷ 0x00 ∷ 0x02 ∷ 0x00 ∷ 0x00 ∷ 0x00
     ∷ 0x0e ∷ 0x00 ∷ 0x02 ∷ 0x00 ∷ 0x01 ∷ 0x02 ∷ 0x02 ∷ 0xff ∷ 0x01 ∷ 0x00 ∷ 0xfb ∷ 0xff ∷ 0xff ∷ 0xff ∷ 0x00 ∷ 0x00 ∷ 0x00 ∷ 0x00 ∷ []
+
+-- the feeds (2, 50, 0, 0), (1, 40, 0, 0) and (2, -3, 7, 0) to queue 0
+abbrev pub feedBytesA : List ℕ
+feedBytesA =
+    0x11 ∷ 0x00 ∷ 0x10 ∷ 0x00 ∷ 0x00 ∷ 2 ∷ 0 ∷ 0 ∷ 0 ∷ 50 ∷ 0 ∷ 0 ∷ 0 ∷ 0 ∷ 0 ∷ 0 ∷ 0 ∷ 0 ∷ 0 ∷ 0 ∷ 0
+    ∷ 0x11 ∷ 0x00 ∷ 0x10 ∷ 0x00 ∷ 0x00 ∷ 1 ∷ 0 ∷ 0 ∷ 0 ∷ 40 ∷ 0 ∷ 0 ∷ 0 ∷ 0 ∷ 0 ∷ 0 ∷ 0 ∷ 0 ∷ 0 ∷ 0 ∷ 0
+    ∷ 0x11 ∷ 0x00 ∷ 0x10 ∷ 0x00 ∷ 0x00 ∷ 2 ∷ 0 ∷ 0 ∷ 0 ∷ 0xfd ∷ 0xff ∷ 0xff ∷ 0xff ∷ 7 ∷ 0 ∷ 0 ∷ 0 ∷ 0 ∷ 0 ∷ 0 ∷ 0 ∷ []
+
+abbrev pub firing : ℕ → List ℕ
+firing q = 0x01 ∷ 0x00 ∷ 0x11 ∷ 0x00 ∷ q ∷ []
+
+abbrev pub benchA : List ℕ
+benchA = bytesA ++ (feedBytesA ++ chain firing (0 ∷ 0 ∷ 1 ∷ 0 ∷ 1 ∷ []))
+
+-- a head alone: I inputs, Q queues, V variables
+abbrev pub headOf : ℕ → ℕ → ℕ → List ℕ
+headOf i q v = 0x04 ∷ 0x00 ∷ 0x01 ∷ 0x00 ∷ i ∷ q ∷ v ∷ 0x00 ∷ []
 
 -- a line of one step, and the other kinds' places, as they lie in memory
 abbrev pub lineOf : ℕ → ℕ → Step → Operator

@@ -7,10 +7,11 @@ use Rattle.sheet.specs.Sheet.{noSheet}
 use lib.IntN.{pos, negsuc}
 use Rattle.store.specs.declared.Item.{Item}
 use Rattle.machine.specs.Machine.{Machine}
-use Rattle.cases.specs.Case.{Case, reads, checks, writes, calms, counts, feeds, takes, fires, runs, fuses, splits, reorders, readies}
+use Rattle.cases.specs.Case.{Case, reads, checks, writes, calms, counts, feeds, takes, fires, runs, fuses, splits, reorders, prints, readies}
 use Rattle.cases.specs.Firings.{LEAST, MOST, item, of, holding, keep, addOne, countFirst, lineOfSteps, dealThree, gatherTwo, many}
 use Rattle.cases.specs.Rewritings.{fusedA, bytesFusedA, reorderedA, splitA, sheetB, eighteen, nineteen, eighteenSplit}
-use Rattle.cases.specs.SheetA.{bytesA, sheetA, restless}
+use Rattle.text.specs.Text.{word}
+use Rattle.cases.specs.SheetA.{bytesA, feedBytesA, firing, benchA, headOf, sheetA, restless}
 
 -- sheet A's worked example: what is fed, the two items that come out, and the machine then
 abbrev pub fedA : Machine
@@ -32,6 +33,17 @@ abbrev pub table : List Case
 table =
     -- A's bytes hold the sheet A that the instance of demand 3 speaks of
     reads bytesA accepted Rattle.order.specs.Instance.sheetA
+    -- bench: the worked example, whole
+    ∷ prints benchA (word "fired 5 skipped 0 rest yes\nq 2 2 45 0 0\nq 2 2 -8 7 0\n")
+    -- no bytes; sheet A without its last byte; a firing and then a feed
+    ∷ prints [] (word "refused 1 at record 0\n")
+    ∷ prints (take 43 bytesA) (word "refused 1 at record 2\n")
+    ∷ prints (bytesA ++ (firing 0 ++ feedBytesA)) (word "refused 2 at record 4\n")
+    -- a queue that is never defined, ahead of a record cut short; that record alone
+    ∷ prints (headOf 1 2 0 ++ (0 ∷ [])) (word "refused 5 at record 1\n")
+    ∷ prints (headOf 1 1 0 ++ (0 ∷ [])) (word "refused 1 at record 1\n")
+    -- an unread input is an output, and each variable has a line
+    ∷ prints (headOf 1 1 2 ++ (take 21 feedBytesA ++ firing 0)) (word "fired 0 skipped 1 rest yes\nq 0 2 50 0 0\nv 0 0\nv 1 0\n")
     -- sheet A is read, checked and written back; a byte past its 44 stays as it was
     ∷ reads bytesA accepted sheetA
     ∷ checks sheetA accepted

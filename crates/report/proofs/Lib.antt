@@ -1,4 +1,4 @@
-pub mod Worked
+pub mod LongInput
 pub mod Outputs
 pub mod Printing
 pub mod OneOutcome
