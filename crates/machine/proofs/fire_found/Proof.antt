@@ -16,7 +16,8 @@ use Rattle.machine.proofs.fire_found.Tie as tie
 returns : tie.Need-returns
 returns c =
     let a = c .before .args in
-    let e = ap (λ (b : Bool). fireFound b (view (a .o)) (decode (stateWith (now (a .counts)) (now (a .vars))) (now (a .store))) (a .q)) (not-true (a .found) (c .if1 .taken)) in
+    let e = ap (λ (b : Bool). fireFound b (view (a .o)) (decode (stateWith (now (a .counts)) (now (a .vars))) (now (a .store))) (a .q))
+    (not-true (a .found) (c .if1 .taken)) in
     refused-answers (stateWith (now (a .counts)) (now (a .vars))) (now (a .store)) _ 9 e _ _ refl refl
 
 fire-operator-requires : tie.Need-fire-operator-requires
@@ -34,7 +35,8 @@ returns-2 c =
     let a = i .before .args in
     subst
     (λ (b : Bool).
-    Answers (saved (stateWith (now (a .counts)) (now (a .vars))) (now (a .store)) (fireFound b (view (a .o)) (decode (stateWith (now (a .counts)) (now (a .vars))) (now (a .store))) (a .q)))
+    Answers (saved (stateWith (now (a .counts)) (now (a .vars))) (now (a .store))
+    (fireFound b (view (a .o)) (decode (stateWith (now (a .counts)) (now (a .vars))) (now (a .store))) (a .q)))
     (f .result) (stateWith (f .last .1 .1 .0) (f .last .1 .1 .1 .0)) (f .last .1 .1 .1 .1 .0))
     (sym (not-false (a .found) (i .if1 .left))) (f .ensures)
 

@@ -17,7 +17,8 @@ element-copy-out-if1 c = search needs
 returns : tie.Need-returns
 returns c =
     let a = c .before .before .args in
-    refused-answers (stateWith (now (a .counts)) (now (a .vars))) (now (a .store)) _ 10 (fire-empty (view (a .o)) (a .q) (stateWith (now (a .counts)) (now (a .vars))) (now (a .store)) (c .if1 .taken)) _ _ refl refl
+    refused-answers (stateWith (now (a .counts)) (now (a .vars))) (now (a .store)) _ 10
+    (fire-empty (view (a .o)) (a .q) (stateWith (now (a .counts)) (now (a .vars))) (now (a .store)) (c .if1 .taken)) _ _ refl refl
 
 try-operator-requires : tie.Need-try-operator-requires
 try-operator-requires c κs = search needs
@@ -30,7 +31,8 @@ returns-2 c =
     let t = c .before .try-operator in
     let d = c .before .before .before .before .before .before .before in
     let a = d .args in
-    let e = refused-of-number (a .o) (a .q) (stateWith (now (a .counts)) (now (a .vars))) (now (a .store)) (d .pre .0) (d .pre .1) (t .result) (t .ensures) (c .if2 .taken) in
+    let e = refused-of-number (a .o) (a .q) (stateWith (now (a .counts)) (now (a .vars))) (now (a .store)) (d .pre .0) (d .pre .1)
+    (t .result) (t .ensures) (c .if2 .taken) in
     refused-answers (stateWith (now (a .counts)) (now (a .vars))) (now (a .store)) _ _ e _ _ refl refl
 
 take-one-requires : tie.Need-take-one-requires
@@ -43,7 +45,8 @@ put-all-requires c κs =
     let d = c .before .before .before .before .before .before .before .before .before .before .before .before .before .before .before in
     let a = d .args in (
       search needs,
-      room-left (a .o) (a .q) (stateWith (now (a .counts)) (now (a .vars))) (now (a .store)) (d .pre .0) (d .pre .1) (t .result) (t .ensures) (i .if2 .left) _ _ (c .before .before .before .before .before .take-one .ensures),
+      room-left (a .o) (a .q) (stateWith (now (a .counts)) (now (a .vars))) (now (a .store)) (d .pre .0) (d .pre .1)
+          (t .result) (t .ensures) (i .if2 .left) _ _ (c .before .before .before .before .before .take-one .ensures),
     )
 
 same-length-2 : tie.Need-same-length-2
