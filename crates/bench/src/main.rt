@@ -1,7 +1,7 @@
 // bench: the report on a sheet, its feeds and its firings, read from standard input.
 
 // One byte more than a bench input may have, so that a longer one is seen.
-const SEEN: usize = 32769;
+const SEEN: usize = trial::INPUT + 1;
 
 // The first n bytes of the text.
 fn print(text: &[u8], n: usize) {
@@ -19,7 +19,7 @@ fn bench(input: &mut [u8], text: &mut [u8]) {
     }
     let end = f.end;
     let p = report::report(&input[..end], &mut *text);
-    print(&*text, p.length);
+    print(&*text, p.size);
 }
 
 fn main() {

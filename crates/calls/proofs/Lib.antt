@@ -1,4 +1,2 @@
-pub mod Found
 pub mod Taking
-pub mod Readies
 pub mod Running

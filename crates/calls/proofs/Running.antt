@@ -10,23 +10,24 @@ use lib.IntN.{ℤ}
 use Rattle.lists.specs.Lists.{bit}
 use Rattle.lists.proofs.Bits.{bit-le}
 use Rattle.operator.specs.Memory.{view}
-use Rattle.format.specs.Head.{VARIABLES, OPERATORS}
+use Rattle.bounds.specs.Bounds.{OPERATORS, VARIABLES, QUEUES}
 use Rattle.sheet.specs.declared.Answer.{Answer}
 use Rattle.sheet.specs.declared.Answer.the-variants.{Done}
 use Rattle.sheet.specs.declared.Sheet.{Sheet}
 use Rattle.sheet.specs.Answer.{Paper, accepted, refused, isAccepted, paper}
 use Rattle.sheet.specs.Sheet.{opAt, viewSheet}
-use Rattle.store.specs.Store.{QUEUES}
 use Rattle.machine.specs.declared.State.{State}
 use Rattle.machine.specs.Machine.{Machine, Outcome, refuse, done, fireM, Ran, ranOn, runFrom, runM}
 use Rattle.machine.specs.Numbers.{decode, stateOf, storeIn, GoodM}
-use Rattle.machine.specs.Calls.{saved, savedRun}
-use Rattle.machine.specs.Working.{readersOf, Stands, fireFound, Answers, RunAnswers}
+use Rattle.machine.specs.Calls.{saved, fireKnown, runKnown}
+use Rattle.machine.specs.Answers.{Answers, RunAnswers}
+use Rattle.machine.specs.Readers.{readersOf}
+use Rattle.machine.specs.Working.{Stands, fireFound}
 use Rattle.machine.proofs.Good.{decode-of-encode, encode-of-decode, good-of-machine, machine-of-good}
 use Rattle.machine.proofs.Keeps.{fire-keeps}
 use Rattle.machine.proofs.RunLaws.{run-next, run-end}
 use Rattle.machine.proofs.Sound.{sound-of-accepted}
-use Rattle.calls.proofs.Found.{fire-as-found}
+use Rattle.machine.proofs.Found.{fire-as-found}
 
 abbrev pub ranWith : ℕ → ℕ → Machine → Ran
 ranWith fired skipped m = record { fired = fired; skipped = skipped; machine = m }
@@ -90,7 +91,7 @@ module _ (t : Sheet) (st₀ : State) (s₀ : List ℤ) (l : List ℕ) where
 
     -- one turn: the entry fires or is skipped
     running-next : (answer : Answer) (st' : State) (s' : List ℤ) (n : ℕ) → k < length l →
-        Answers (saved st s (fireM (viewSheet t) (decode st s) (getD l k 0))) answer st' s' → n ≡ bit (isAccepted (paper answer)) →
+        Answers (fireKnown t st s (getD l k 0)) answer st' s' → n ≡ bit (isAccepted (paper answer)) →
         Running t st₀ s₀ l st' s' (fired + n) (skipped + (1 - n)) (k + 1)
     running-next answer st' s' n b a e =
         let o = fireM (viewSheet t) (decode st s) (getD l k 0) in
@@ -109,14 +110,14 @@ module _ (t : Sheet) (st₀ : State) (s₀ : List ℤ) (l : List ℕ) where
     -- the same where the entry's operator is fired as the code finds it
     pub running-turn : (rs : List ℕ) (i : ℕ) → rs ≡ readersOf (viewSheet t .ops) → i ≡ getD rs (getD l k 0) OPERATORS →
         (answer : Answer) (st' : State) (s' : List ℤ) (n : ℕ) → k < length l →
-        Answers (saved st s (fireFound (ltb i 16) (view (opAt t (i % 16))) (decode st s) (getD l k 0))) answer st' s' →
+        Answers (saved st s (fireFound (ltb i OPERATORS) (view (opAt t (i % OPERATORS))) (decode st s) (getD l k 0))) answer st' s' →
         n ≡ bit (isAccepted (paper answer)) → Running t st₀ s₀ l st' s' (fired + n) (skipped + (1 - n)) (k + 1)
     running-turn rs i e f answer st' s' n b a =
         running-next answer st' s' n b
         (subst (λ (o : Outcome). Answers (saved st s o) answer st' s') (fire-as-found t (getD l k 0) i rs e f (r .stands .sheet) (decode st s)) a)
 
     -- at the end the numbers are those of the whole run
-    pub running-end : length l ≤ k → RunAnswers (savedRun (runM (viewSheet t) l (decode st₀ s₀))) Done fired skipped st s
+    pub running-end : length l ≤ k → RunAnswers (runKnown t st₀ s₀ l) Done fired skipped st s
     running-end b =
         let e : ranWith fired skipped (decode st s) ≡ runM (viewSheet t) l (decode st₀ s₀) =
         sym (run-end (viewSheet t) l k (ranWith fired skipped (decode st s)) b) ∙ r .left in

@@ -10,11 +10,11 @@ use lib.Dec.{eqb, ltb}
 use lib.ListN.{length, getD, drop}
 use lib.IntN.{ℤ}
 use borrow.Author.Tests.{lt-ltb, le-ltb, eq-eqb, ne-eqb, ltb-true}
-use Rattle.lists.specs.Lists.{member}
 use Rattle.lists.proofs.Build.{order}
-use Rattle.lists.proofs.Tests.{both, all-member}
-use Rattle.operator.specs.Op.{double, Abstract, reads}
-use Rattle.format.specs.Head.{OPERATORS, VARIABLES}
+use Rattle.lists.proofs.Tests.{both}
+use Rattle.operator.specs.Op.{double, Abstract}
+use Rattle.bounds.specs.Bounds.{OPERATORS, VARIABLES, FIELDS, QUEUES}
+use Rattle.sheet.specs.declared.Answer.{Answer}
 use Rattle.sheet.specs.declared.Answer.the-variants.{Done, Refused}
 use Rattle.sheet.specs.declared.Sheet.{Sheet}
 use Rattle.sheet.specs.Answer.{accepted, paper}
@@ -22,16 +22,19 @@ use Rattle.sheet.specs.Sheet.{viewSheet}
 use Rattle.sheet.specs.Check.{checkOf}
 use Rattle.sheet.proofs.Accepted.{ranges-of-accepted}
 use Rattle.sheet.proofs.Placed.{ops-many}
-use Rattle.store.specs.Store.{FIELDS, QUEUES, part, firstOf}
+use Rattle.store.specs.Store.{part, firstOf}
 use Rattle.store.specs.Queues.{itemsOf}
 use Rattle.store.specs.declared.Item.{Item}
 use Rattle.machine.specs.declared.State.{State}
-use Rattle.machine.specs.declared.Taken.{Taken}
+use Rattle.machine.specs.declared.TakenItem.{TakenItem}
 use Rattle.machine.specs.Machine.{Machine, isOutput, Take, none, takeFrom, takeM}
 use Rattle.machine.specs.Numbers.{decode}
-use Rattle.machine.specs.Calls.{TakeCall, savedTake, noItem}
-use Rattle.machine.specs.Working.{readerFrom, readersOf, Raw, raw, takeRaw, Stands, TakeAnswers}
+use Rattle.machine.specs.Calls.{TakeCall, unchanged, savedTake, noItem, takeKnown}
+use Rattle.machine.specs.Answers.{TakeAnswers}
+use Rattle.machine.specs.Readers.{readerFrom, readersOf}
+use Rattle.machine.specs.Working.{Raw, raw, takeRaw, Stands}
 use Rattle.machine.proofs.Bridge.{holds-of-good, take-holds, head-of-count, empty-of-count}
+use Rattle.machine.proofs.Found.{reads-in-table}
 use Rattle.machine.proofs.Good.{machine-of-good}
 use Rattle.machine.proofs.ReaderLaws.{reader-any, reader-below, output-by-reader}
 use Rattle.machine.proofs.Sound.{sound-of-accepted}
@@ -48,14 +51,6 @@ none-past i h =
 pub output-past : (a : Abstract) (q : ℕ) → a .queues ≤ q → false ≡ isOutput a q
 output-past a q h = sym (rw (le-ltb q (a .queues) h))
 
--- an accepted sheet's operators read only queues that the table has
-pub reads-in-table : (t : Sheet) → checkOf t ≡ accepted → (i p : ℕ) → i < length (viewSheet t .ops) →
-    member p (reads (getD (viewSheet t .ops) i (double 0 0 0))) ≡ true → p < QUEUES
-reads-in-table t h i p l m =
-    let s = sound-of-accepted t h in
-    let o = getD (viewSheet t .ops) i (double 0 0 0) in
-    omega (arith, s .queues, ltb-true p (t .queues) (all-member (λ (q : ℕ). ltb q (t .queues)) (reads o) (s .each i l .ins) p m))
-
 -- and one below Q is one exactly if the table has no reader of it
 pub output-by-table : (t : Sheet) → checkOf t ≡ accepted → (q i : ℕ) (rs : List ℕ) → rs ≡ readersOf (viewSheet t .ops) → i ≡ getD rs q OPERATORS →
     q < t .queues → eqb i OPERATORS ≡ isOutput (viewSheet t) q
@@ -63,7 +58,7 @@ output-by-table t h q i rs e d l =
     let a = viewSheet t in
     let n : length (a .ops) ≤ OPERATORS = omega (arith, ops-many t, ranges-of-accepted t h) in
     let r : i ≡ readerFrom (a .ops) 0 q =
-    d ∙ ap (λ (u : List ℕ). getD u q OPERATORS) e ∙ reader-any (a .ops) (double 0 0 0) (reads-in-table t h) q in
+    d ∙ ap (λ (u : List ℕ). getD u q OPERATORS) e ∙ reader-any (a .ops) (double 0 0 0) (reads-in-table t h (double 0 0 0)) q in
     none-past i (omega (arith, reader-below (a .ops) 0 q (omega arith)))
     ∙ ap (λ (k : ℕ). not (ltb k OPERATORS)) r
     ∙ sym (output-by-reader a q n ∙ ap (λ (b : Bool). b && not (ltb (readerFrom (a .ops) 0 q) OPERATORS)) (lt-ltb q (t .queues) l))
@@ -85,35 +80,38 @@ take-from : (a : Abstract) (m : Machine) (q : ℕ) (xs : List Item) → isOutput
 unfolding takeM
 take-from a m q xs h e = rw h (ap (takeFrom m q) e)
 
--- a refusal, as `no_take` answers it
-answers-none : (st : State) (s : List ℤ) (k : Take) (n : ℕ) (r : Taken) → k ≡ none n →
-    (r .answer ≡ Refused n) × (r .item ≡ noItem) × (r .state ≡ st) → TakeAnswers (savedTake st s k) (r .answer) (r .item) (r .state) s
-answers-none st s k n r e h =
-    let d : savedTake st s k ≡ savedTake st s (none n) = ap (savedTake st s) e in
+-- a call that changes nothing, as `no_take` answers it
+pub no-take-answers : (c : TakeCall) (x : Answer) (st : State) (s : List ℤ) (r : TakenItem) → c ≡ record { call = unchanged (paper x) st s; item = noItem } →
+    (r .answer ≡ x) × (r .item ≡ noItem) × (r .state ≡ st) → TakeAnswers c (r .answer) (r .item) (r .state) s
+no-take-answers c x st s r e h =
     record {
       call = record {
-        answered = ap paper (h .0) ∙ sym (ap (λ (c : TakeCall). c .call .answer) d);
-        stated = h .2 ∙ sym (ap (λ (c : TakeCall). c .call .state) d);
-        stored = sym (ap (λ (c : TakeCall). c .call .store) d);
+        answered = ap paper (h .0) ∙ sym (ap (λ (d : TakeCall). d .call .answer) e);
+        stated = h .2 ∙ sym (ap (λ (d : TakeCall). d .call .state) e);
+        stored = sym (ap (λ (d : TakeCall). d .call .store) e);
       };
-      taken = h .1 ∙ sym (ap (λ (c : TakeCall). c .item) d);
+      taken = h .1 ∙ sym (ap (λ (d : TakeCall). d .item) e);
     }
 
+answers-none : (st : State) (s : List ℤ) (k : Take) (n : ℕ) (r : TakenItem) → k ≡ none n →
+    (r .answer ≡ Refused n) × (r .item ≡ noItem) × (r .state ≡ st) → TakeAnswers (savedTake st s k) (r .answer) (r .item) (r .state) s
+answers-none st s k n r e h = no-take-answers (savedTake st s k) (Refused n) st s r (ap (savedTake st s) e) h
+
 module _ (t : Sheet) (st : State) (s : List ℤ) (q : ℕ) where
-  pub takes-no-output : (b : Bool) (r : Taken) → b ≡ isOutput (viewSheet t) q → b ≡ false →
+  pub takes-no-output : (b : Bool) (r : TakenItem) → b ≡ isOutput (viewSheet t) q → b ≡ false →
       (r .answer ≡ Refused 9) × (r .item ≡ noItem) × (r .state ≡ st) →
-      TakeAnswers (savedTake st s (takeM (viewSheet t) (decode st s) q)) (r .answer) (r .item) (r .state) s
+      TakeAnswers (takeKnown t st s q) (r .answer) (r .item) (r .state) s
   takes-no-output b r e f h = answers-none st s _ 9 r (take-no-output (viewSheet t) (decode st s) q (sym e ∙ f)) h
 
-  pub takes-empty : (b : Bool) (r : Taken) → b ≡ isOutput (viewSheet t) q → b ≡ true → getD (st .counts) q 0 ≡ 0 →
+  pub takes-empty : (b : Bool) (r : TakenItem) → b ≡ isOutput (viewSheet t) q → b ≡ true → getD (st .counts) q 0 ≡ 0 →
       (r .answer ≡ Refused 10) × (r .item ≡ noItem) × (r .state ≡ st) →
-      TakeAnswers (savedTake st s (takeM (viewSheet t) (decode st s) q)) (r .answer) (r .item) (r .state) s
+      TakeAnswers (takeKnown t st s q) (r .answer) (r .item) (r .state) s
   takes-empty b r e f z h =
       answers-none st s _ 10 r (take-from (viewSheet t) (decode st s) q [] (sym e ∙ f) (empty-of-count st s q z)) h
 
   pub takes-first : Stands t st s → length (st .counts) ≡ QUEUES → length (st .vars) ≡ VARIABLES → (b : Bool) → b ≡ isOutput (viewSheet t) q → b ≡ true →
       0 < getD (st .counts) q 0 → (x : Item) (cs : List ℕ) (s' : List ℤ) → x ≡ firstOf (part s q) → raw cs s' ≡ takeRaw (raw (st .counts) s) q →
-      TakeAnswers (savedTake st s (takeM (viewSheet t) (decode st s) q)) Done x (record { counts = cs; vars = st .vars }) s'
+      TakeAnswers (takeKnown t st s q) Done x (record { counts = cs; vars = st .vars }) s'
   takes-first h n v b e f p x cs s' d r =
       let a = viewSheet t in
       let m = decode st s in

@@ -1,5 +1,6 @@
 -- The whole table is right: each row is computed.
 use mathlib.Core.Path.{refl}
+use lib.Count.{ones, trailingZeros}
 use Rattle.number.specs.Number.{shortOf, shortBytes, bitsOf, bitsBytes}
 use Rattle.step.specs.Step.{funcOf, stepNames, stepVariable, unusedZ, fieldPlace, stepPlaces, blank, stepBytes, stepOf}
 use Rattle.operator.specs.Memory.{tidyAs, memoryNumber, vacant}
@@ -7,8 +8,8 @@ use Rattle.judge.specs.Judge.{four, five, six, seven, judgeBy, whole}
 use Rattle.format.specs.Record.{kindOf, recordBytes, cut, bodyGood, taken, opBytes}
 use Rattle.format.specs.Head.{headGood, headNumber}
 use Rattle.sheet.specs.Check.{checkFrom, ending, checkOf}
-use Rattle.codec.specs.Read.{readFrom, frontOf, readOf}
-use Rattle.codec.specs.Write.{writeOf}
+use Rattle.codec_read.specs.Read.{readFrom, frontOf, readOf}
+use Rattle.codec_write.specs.Write.{writeOf}
 use Rattle.counts.specs.Worst.{feedGood}
 use Rattle.counts.specs.Answers.{worstOf}
 use Rattle.store.specs.Store.{part, withPart, fields, firstOf}
@@ -19,11 +20,11 @@ use Rattle.effect.specs.Effect.{effect, waits, cursorGood}
 use Rattle.machine.specs.Machine.{commit, fireFrom, fireFirst, feedM, takeM, runFrom}
 use Rattle.machine.specs.Ready.{readySet}
 use Rattle.machine.specs.Numbers.{good}
-use Rattle.rewriter.specs.Rewrite.{fuse, split, reorder}
+use Rattle.rewrite_rules.specs.Rewrite.{fuse, split, reorder}
 use Rattle.rewriter.specs.Calls.{fuseOf, splitOf, reorderOf}
 use Rattle.machine.specs.Calls.{fireOf, feedOf, takeOf, runOf, readyOf}
 use Rattle.text.specs.Text.{digits, natural, integer}
-use Rattle.trial.specs.Records.{itemAt, isFeed, feedNext, feedsFrom, firingNumber, firingsFrom}
+use Rattle.bench_records.specs.Records.{itemAt, isFeed, feedNext, feedsFrom, firingNumber, firingsFrom}
 use Rattle.trial.specs.Trial.{outputsAt, trialOf}
 use Rattle.lines.specs.Lines.{itemLine, variableLine, refusalLine, countsLine}
 use Rattle.report.specs.Print.{printed}
@@ -36,13 +37,15 @@ _&_ : {A B : Type 0} → A → B → A × B
 a & b = (a, b)
 
 pub cases : Rights table
-unfolding shortOf shortBytes bitsOf bitsBytes funcOf stepNames stepVariable unusedZ fieldPlace stepPlaces blank stepBytes stepOf tidyAs memoryNumber
-    vacant four five six seven judgeBy whole kindOf recordBytes cut bodyGood taken opBytes headGood headNumber checkFrom ending checkOf readFrom frontOf
-    readOf writeOf feedGood worstOf part withPart fields firstOf encodeItems queuePart storeOf itemsOf queuesOf quietQueue quietFrom does stepped effect
-    waits cursorGood commit fireFrom fireFirst feedM takeM runFrom readySet good fireOf feedOf takeOf runOf readyOf fuse split reorder fuseOf splitOf reorderOf
-    digits natural integer itemAt isFeed feedNext feedsFrom firingNumber firingsFrom outputsAt trialOf itemLine variableLine refusalLine countsLine printed
+unfolding shortOf shortBytes bitsOf bitsBytes funcOf stepNames stepVariable unusedZ fieldPlace stepPlaces blank stepBytes stepOf tidyAs
+    memoryNumber vacant four five six seven judgeBy whole kindOf recordBytes cut bodyGood taken opBytes headGood headNumber checkFrom ending
+    checkOf readFrom frontOf readOf writeOf feedGood worstOf part withPart fields firstOf encodeItems queuePart storeOf itemsOf queuesOf
+    quietQueue quietFrom does stepped effect waits cursorGood commit fireFrom fireFirst feedM takeM runFrom readySet good fireOf feedOf
+    takeOf runOf readyOf fuse split reorder fuseOf splitOf reorderOf digits natural integer ones trailingZeros itemAt isFeed feedNext
+    feedsFrom firingNumber firingsFrom outputsAt trialOf itemLine variableLine refusalLine countsLine printed
 cases =
-    refl & refl & refl & refl & refl & refl & refl & refl & refl & refl & refl & refl & refl & refl & refl & (refl, refl) & (refl, refl) & refl & refl &
-    refl & refl & refl & refl & refl & refl & (refl, refl) & refl & refl & refl & refl & refl & refl & refl &
-    refl & refl & refl & refl & refl & refl & refl & refl & refl & refl & refl & refl & refl & refl & refl &
-    refl & refl & refl & refl & refl & refl & refl & refl & tt
+    refl & refl & refl & refl & refl & refl & refl & refl & refl & refl & refl & refl & refl & refl & refl & refl & (refl, refl) &
+    (refl, refl) & refl & refl & refl & refl & refl & refl & refl & refl & refl & refl & refl & refl & refl & refl & refl & refl &
+    refl & refl & refl & refl & refl & refl & refl & refl & refl & refl & refl & refl & refl & refl & refl & refl & refl & refl &
+    refl & refl & refl & refl & refl & refl & refl & refl & refl & refl & refl & refl & refl & refl & refl & refl & refl & refl &
+    refl & refl & refl & refl & tt

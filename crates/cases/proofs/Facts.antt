@@ -21,21 +21,23 @@ use Rattle.operator.specs.Memory.{tidyAs, memoryNumber, vacant, noOperator, Hel
 use Rattle.operator.proofs.Held.{held-no-operator}
 use Rattle.judge.specs.Judge.{four, five, six, seven, judgeBy, whole}
 use Rattle.format.specs.Record.{recordBytes, opBytes}
-use Rattle.format.specs.Head.{OPERATORS, headGood}
+use Rattle.format.specs.Head.{headGood}
+use Rattle.bounds.specs.Bounds.{OPERATORS}
 use Rattle.sheet.specs.Answer.{accepted}
 use Rattle.sheet.specs.Sheet.{viewSheet, opAt, missing, HeldSheet}
 use Rattle.sheet.specs.Check.{checkFrom, ending, checkOf}
-use Rattle.codec.specs.Read.{readOf}
-use Rattle.codec.specs.Write.{sheetBytes, Writing, writeOf}
-use Rattle.codec.proofs.Back.{write-of-room}
+use Rattle.codec_read.specs.Read.{readOf}
+use Rattle.codec_write.specs.Write.{sheetBytes, Writing, writeOf}
+use Rattle.codec_write.proofs.Writing.{write-of-room}
+use Rattle.codec.proofs.Theorems.{read-of-written}
 use Rattle.counts.specs.Calm.{isCalm}
-use Rattle.rewriter.specs.Rewrite.{touchesNone, writesSome}
-use Rattle.order.specs.Instance.{keepTwo, lessFive}
-use Rattle.cases.specs.SheetA.{lineOf, sheetA}
-use Rattle.cases.proofs.Theorems.{read-of-written}
+use Rattle.rewrite_rules.specs.Rewrite.{touchesNone, writesSome}
+use Rattle.order.specs.Instance.{keepTwo, lessFive, sheetA}
+use Rattle.cases.specs.SheetA.{lineOf}
 
 pub sheet-a-accepted : checkOf sheetA ≡ accepted
-unfolding stepNames stepVariable unusedZ fieldPlace stepPlaces blank tidyAs memoryNumber vacant four five six seven judgeBy whole headGood checkFrom ending checkOf
+unfolding stepNames stepVariable unusedZ fieldPlace stepPlaces blank tidyAs memoryNumber vacant four five six seven judgeBy whole headGood
+    checkFrom ending checkOf
 sheet-a-accepted = refl
 
 pub sheet-a-calm : isCalm (viewSheet sheetA) ≡ true
@@ -51,19 +53,19 @@ first-of-four P x d p e (suc (suc (suc zero))) = e
 first-of-four P x d p e (suc (suc (suc (suc k)))) = e
 
 -- a line of one step whose numbers fit their types
-record Fit (s : Step) : Type 0 where
+record StepHeld (s : Step) : Type 0 where
   variable : s .variable < 256
   p : s .p < 256
   r : s .r < 256
   low : SFits w32 (s .low)
   high : SFits w32 (s .high)
 
-fit-no-step : Fit noStep
-fit-no-step = record { variable = lit< tt; p = lit< tt; r = lit< tt; low = sfits-of (lit< tt); high = sfits-of (lit< tt) }
+held-no-step : StepHeld noStep
+held-no-step = record { variable = lit< tt; p = lit< tt; r = lit< tt; low = sfits-of (lit< tt); high = sfits-of (lit< tt) }
 
-held-line : (p q : ℕ) (s : Step) → p < 256 → q < 256 → Fit s → Held (lineOf p q s)
+held-line : (p q : ℕ) (s : Step) → p < 256 → q < 256 → StepHeld s → Held (lineOf p q s)
 held-line p q s a b f =
-    let step : (k : ℕ) → Fit (getD (s ∷ noStep ∷ noStep ∷ noStep ∷ []) k noStep) = first-of-four Fit s noStep f fit-no-step in
+    let step : (k : ℕ) → StepHeld (getD (s ∷ noStep ∷ noStep ∷ noStep ∷ []) k noStep) = first-of-four StepHeld s noStep f held-no-step in
     record {
       ins-full = refl;
       outs-full = refl;
@@ -103,9 +105,9 @@ sheet-a-size = refl
 sheet-a-room : length (sheetBytes (viewSheet sheetA)) ≤ length lent
 sheet-a-room = rw sheet-a-size (lit≤ tt)
 
-sheet-a-length : writeOf sheetA lent .length ≡ 44
+sheet-a-length : writeOf sheetA lent .size ≡ 44
 sheet-a-length =
-    ap (λ (w : Writing). w .length) (write-of-room sheetA lent (sheetBytes (viewSheet sheetA)) sheet-a-accepted refl sheet-a-room) ∙ sheet-a-size
+    ap (λ (w : Writing). w .size) (write-of-room sheetA lent (sheetBytes (viewSheet sheetA)) sheet-a-accepted refl sheet-a-room) ∙ sheet-a-size
 
 pub sheet-a-again : readOf (take 44 (writeOf sheetA lent .buffer)) ≡ record { answer = accepted; sheet = sheetA }
 sheet-a-again =

@@ -1,3 +1,3 @@
 pub mod Cases
-pub mod Theorems
 pub mod Facts
+pub mod Theorems

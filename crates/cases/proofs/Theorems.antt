@@ -17,6 +17,9 @@ pub use Rattle.codec.proofs.Theorems.{read-refusal-number}
 pub use Rattle.sheet.proofs.Accepted.{refusal-record}
 -- the check's refusal is one of the numbers 1 to 7
 pub use Rattle.sheet.proofs.Accepted.{refusal-number}
+-- a refusal of the check and of a reading has a record
+pub use Rattle.sheet.proofs.Accepted.{refusal-has-record}
+pub use Rattle.codec.proofs.Theorems.{read-refusal-has-record}
 -- an accepted sheet: each queue below Q is defined exactly once, by the head or by an operator
 pub use Rattle.sheet.proofs.Laws.{defined-once}
 -- no queue is read twice
@@ -35,18 +38,23 @@ pub use Rattle.sheet.proofs.Laws.{queue-below}
 pub use Rattle.sheet.proofs.Laws.{variable-below}
 -- worst counts: they are 0 from queue Q on
 pub use Rattle.counts.proofs.WorstLaws.{worst-past}
+-- worst counts are 24 numbers, refused or not
+pub use Rattle.counts.proofs.WorstLaws.{worst-length}
 -- calm sheets: no two operators of a calm sheet name the same variable
 pub use Rattle.counts.proofs.CalmLaws.{calm-apart}
 -- a sheet of which no two operators name the same variable is calm
 pub use Rattle.counts.proofs.CalmLaws.{apart-calm}
+-- the paper's words: two answers that say the same are the same
+pub use Rattle.sheet.proofs.AnswerLaws.{paper-injective}
 -- one outcome: two answers that meet the contract of the check are equal
 pub use Rattle.sheet.proofs.OneOutcome.{check-one}
 -- two answers that meet the contract of reading the head and the operators are equal
-pub use Rattle.codec.proofs.OneOutcome.{front-one}
+pub use Rattle.codec_read.proofs.OneOutcome.{front-one}
 -- two answers that meet the contract of reading are equal
-pub use Rattle.codec.proofs.OneOutcome.{read-one}
+pub use Rattle.codec_read.proofs.OneOutcome.{read-one}
 -- two answers that meet the contract of writing are equal, and so are the two buffers
-pub use Rattle.codec.proofs.OneOutcome.{write-one, again-one}
+pub use Rattle.codec_write.proofs.OneOutcome.{write-one}
+pub use Rattle.codec.proofs.OneOutcome.{again-one}
 -- two answers that meet the contract of the calm test are equal
 pub use Rattle.counts.proofs.OneOutcome.{calm-one}
 -- two answers that meet the contract of the worst counts are equal
@@ -65,10 +73,14 @@ pub use Rattle.machine.proofs.Keeps.{take-keeps}
 pub use Rattle.machine.proofs.Firing.{fire-takes-one}
 -- it puts at most one item on each queue
 pub use Rattle.machine.proofs.Firing.{put-at-most-one}
+-- a firing is refused with 9, 10, 11 or 12 and with no other number
+pub use Rattle.machine.proofs.Firing.{fire-refusals}
 -- a run fires an entry exactly if its firing, in the state reached by then, is accepted
 pub use Rattle.machine.proofs.RunLaws.{run-entry-fired}
 -- and skips it exactly if not
 pub use Rattle.machine.proofs.RunLaws.{run-entry-skipped}
+-- an entry of a run that is refused leaves the machine as it was
+pub use Rattle.machine.proofs.RunLaws.{run-refused}
 -- bit q of the ready set is 1 exactly if firing q would be accepted
 pub use Rattle.machine.proofs.ReadyLaws.{ready-bit}
 -- the set is 0 only if every queue number is refused
@@ -79,8 +91,15 @@ pub use Rattle.machine.proofs.ReadyLaws.{rest-ready}
 pub use Rattle.machine.proofs.ReadyLaws.{ready-count}
 -- the trailing zeros are the lowest queue that is ready, 32 where none is
 pub use Rattle.machine.proofs.ReadyLaws.{ready-lowest}
+-- where no queue is ready the lowest is 32
+pub use Rattle.machine.proofs.ReadyLaws.{ready-lowest-none}
+-- of the calls themselves: where sheet and numbers stand, the ready set is 0 exactly if `fire` refuses every queue number
+pub use Rattle.runner.proofs.Rest.{rest-refuses-all, all-refused-rests}
 -- one outcome: fresh, feed and fire; take; run; ready
-pub use Rattle.machine.proofs.OneOutcome.{fired-one, taken-one, ran-one, ready-one}
+pub use Rattle.machine.proofs.OneOutcome.{called-one, taken-one, ran-one, ready-one}
+-- which operator reads a queue; what trying an operator would do
+pub use Rattle.runner.proofs.OneOutcome.{reader-one}
+pub use Rattle.machine.proofs.OneOutcome.{attempt-one}
 -- the rewriter: an accepted answer is an accepted, calm sheet again, and the one that the paper sets out
 pub use Rattle.order.proofs.Again.{fuse-again, split-again, reorder-again}
 -- one outcome: two answers that meet the contract of fuse, split or reorder are equal
@@ -89,10 +108,24 @@ pub use Rattle.rewriter.proofs.OneOutcome.{fuse-one, split-one, reorder-one}
 pub use Rattle.order.proofs.DemandThree.{demand-3}
 -- from one good state of a calm sheet any two lists that end at rest fire equally often and leave the same whole state
 pub use Rattle.order.proofs.OneRest.{one-rest-of-calm}
+-- a run of l and then of l′ is a run of both: the same answer, state and store, and the counts add up
+pub use Rattle.order.proofs.Composed.{runs-join}
+-- a firing leaves what a run of its one entry leaves, refused or not
+pub use Rattle.order.proofs.Composed.{firing-is-run}
+-- any sequence of firings and runs leaves what one run of all their entries leaves, and as many fire
+pub use Rattle.order.proofs.Composed.{sequence-is-run}
+-- demand 3 for any such sequences, accepted and refused calls among them
+pub use Rattle.order.proofs.Courses.{demand-3-of-calls}
+-- and from one good state of a calm sheet any two sequences that end at rest fire equally often and leave the same whole state
+pub use Rattle.order.proofs.Courses.{one-rest-of-calls}
 -- from any good state of an accepted sheet some list ends at rest
 pub use Rattle.order.proofs.Reaches.{reaches-rest}
+-- of the model alone: a run that ends at rest fires at most as often as the worst counts of the queues that are read say
+pub use Rattle.theory.proofs.Final.{firings-le}
 -- demand 3 speaks of sheet A, and of A reordered and then split, each fired in an order of its own
 pub use Rattle.order.proofs.Instance.{instance-met, instance}
+-- and of the same sides fired by sequences of calls, refused ones among them
+pub use Rattle.order.proofs.Instance.{courses-met, instance-of-calls}
 -- what goes wrong without the conditions: the paper's four slips, and a sheet that is not calm
 pub use Rattle.order.proofs.Slips.{slips-show, rows-are-fed, rewritings-refused, accepted-not-calm, dropping-calm, gather-waits}
 -- what bench prints: it fits in TEXT bytes, and two outcomes that meet the report's contract are equal
@@ -100,3 +133,17 @@ pub use Rattle.report.proofs.Fits.{text-fits}
 pub use Rattle.report.proofs.OneOutcome.{report-one}
 -- over-long input is 18 at record 0
 pub use Rattle.report.proofs.LongInput.{long-refused}
+-- the text of an input stands at the front of a buffer that is long enough
+pub use Rattle.report.proofs.OneOutcome.{text-at-front}
+-- trying an input: two outcomes that meet the contract are equal, answer and store
+pub use Rattle.trial.proofs.OneOutcome.{tried-one}
+-- the table of the paper's cases, every row computed
+pub use Rattle.cases.proofs.Cases.{cases}
+-- the table of steps: the code's table is the paper's, row by row
+pub use Rattle.step.proofs.Rows.{table-right}
+-- its column of arities says how many places a function takes
+pub use Rattle.step.proofs.Rows.{arity-counts-places}
+-- of the five functions split takes Add and Copy, reorder Keep, Add and Copy
+pub use Rattle.cases.proofs.Facts.{split-takes, reorder-takes}
+-- sheet A passes the check, is calm, is a sheet that the program can hold, takes 44 bytes, and is read back from where it is written
+pub use Rattle.cases.proofs.Facts.{sheet-a-accepted, sheet-a-calm, sheet-a-held, sheet-a-size, sheet-a-again}

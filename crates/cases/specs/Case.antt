@@ -7,8 +7,8 @@ use Rattle.sheet.specs.declared.Sheet.{Sheet}
 use Rattle.sheet.specs.Answer.{Paper}
 use Rattle.sheet.specs.Sheet.{viewSheet}
 use Rattle.sheet.specs.Check.{checkOf}
-use Rattle.codec.specs.Read.{readOf}
-use Rattle.codec.specs.Write.{writeOf}
+use Rattle.codec_read.specs.Read.{readOf}
+use Rattle.codec_write.specs.Write.{writeOf}
 use Rattle.counts.specs.Calm.{isCalm}
 use Rattle.counts.specs.Answers.{worstOf}
 use Rattle.store.specs.declared.Item.{Item}
@@ -21,7 +21,7 @@ use Rattle.machine.specs.Calls.{Call, feedOf, takeOf, fireOf, runOf, readyOf}
 pub data Case : Type 0 where
   reads : (bytes : List ℕ) (answer : Paper) (sheet : Sheet) → Case
   checks : (sheet : Sheet) (answer : Paper) → Case
-  writes : (sheet : Sheet) (buffer : List ℕ) (answer : Paper) (length : ℕ) (after : List ℕ) → Case
+  writes : (sheet : Sheet) (buffer : List ℕ) (answer : Paper) (size : ℕ) (after : List ℕ) → Case
   calms : (sheet : Sheet) (answer : Paper) (calm : Bool) → Case
   counts : (sheet : Sheet) (fed : List ℕ) (answer : Paper) (worst : List ℕ) → Case
   feeds : (sheet : Sheet) (before : Machine) (queue : ℕ) (item : Item) (answer : Paper) (after : Machine) → Case
@@ -32,7 +32,7 @@ pub data Case : Type 0 where
   splits : (sheet : Sheet) (operator ways : ℕ) (answer : Paper) (after : Sheet) → Case
   reorders : (sheet : Sheet) (operator : ℕ) (answer : Paper) (after : Sheet) → Case
   prints : (input text : List ℕ) → Case
-  readies : (sheet : Sheet) (before : Machine) (answer : Paper) (set : ℕ) → Case
+  readies : (sheet : Sheet) (before : Machine) (answer : Paper) (set count lowest : ℕ) → Case
 
 -- a call's answer and the numbers that it leaves
 abbrev pub leaving : Paper → Machine → Call
@@ -41,7 +41,7 @@ leaving p m = record { answer = p; state = stateOf m; store = storeIn m }
 abbrev pub Right : Case → Type 0
 Right (reads s p t) = readOf s ≡ record { answer = p; sheet = t }
 Right (checks t p) = checkOf t ≡ p
-Right (writes t l p n after) = writeOf t l ≡ record { answer = p; length = n; buffer = after }
+Right (writes t l p n after) = writeOf t l ≡ record { answer = p; size = n; buffer = after }
 Right (calms t p b) = (checkOf t ≡ p) × (isCalm (viewSheet t) ≡ b)
 Right (counts t fed p w) = worstOf t fed ≡ record { answer = p; counts = w }
 Right (feeds t m q x p m') = feedOf t (stateOf m) (storeIn m) q x ≡ leaving p m'
@@ -52,7 +52,7 @@ Right (fuses t i p u) = fuseOf t i ≡ record { answer = p; sheet = u }
 Right (splits t i k p u) = splitOf t i k ≡ record { answer = p; sheet = u }
 Right (reorders t i p u) = reorderOf t i ≡ record { answer = p; sheet = u }
 Right (prints s text) = textOf s ≡ text
-Right (readies t m p set) = (readyOf t (stateOf m) (storeIn m) .answer ≡ p) × (readyOf t (stateOf m) (storeIn m) .set ≡ set)
+Right (readies t m p set n low) = readyOf t (stateOf m) (storeIn m) ≡ record { answer = p; set = set; count = n; lowest = low }
 
 -- every row of a table
 abbrev pub Rights : List Case → Type 0

@@ -2,4 +2,5 @@ pub mod Case
 pub mod SheetA
 pub mod Firings
 pub mod Rewritings
+pub mod Damaged
 pub mod Table

@@ -2,14 +2,13 @@
 use mathlib.Core.List.{List, [], _∷_, _++_}
 use Prim.Native.Nat.{ℕ}
 use lib.IntN.{pos}
-use Rattle.step.specs.declared.Func.the-variants.{Keep}
 use Rattle.step.specs.declared.Step.{Step}
 use Rattle.operator.specs.Op.{Op, line, double, deal, gather}
 use Rattle.sheet.specs.declared.Sheet.{Sheet}
-use Rattle.order.specs.Instance.{sheetOf, keepTwo, lessFive}
-use Rattle.cases.specs.Firings.{addOne}
+use Rattle.order.specs.Samples.{sheetOf, keepIn, addOne}
+use Rattle.order.specs.Instance.{keepTwo, lessFive}
 
--- sheet A fused, with its bytes; reordered; its Add line split two ways
+-- sheet A fused, with its bytes; its Add line split two ways
 abbrev pub fusedA : Sheet
 fusedA = sheetOf 1 2 0 (line 0 1 (keepTwo ∷ lessFive ∷ []) ∷ [])
 
@@ -18,9 +17,6 @@ bytesFusedA =
     0x04 ∷ 0x00 ∷ 0x01 ∷ 0x00 ∷ 0x01 ∷ 0x02 ∷ 0x00 ∷ 0x01 ∷ 0x1a ∷ 0x00 ∷ 0x02 ∷ 0x00 ∷ 0x00 ∷ 0x01
     ∷ 0x01 ∷ 0xff ∷ 0x00 ∷ 0x00 ∷ 0x02 ∷ 0x00 ∷ 0x00 ∷ 0x00 ∷ 0x02 ∷ 0x00 ∷ 0x00 ∷ 0x00
     ∷ 0x02 ∷ 0xff ∷ 0x01 ∷ 0x00 ∷ 0xfb ∷ 0xff ∷ 0xff ∷ 0xff ∷ 0x00 ∷ 0x00 ∷ 0x00 ∷ 0x00 ∷ []
-
-abbrev pub reorderedA : Sheet
-reorderedA = sheetOf 1 3 0 (line 0 1 (lessFive ∷ []) ∷ line 1 2 (keepTwo ∷ []) ∷ [])
 
 abbrev pub splitA : Sheet
 splitA =
@@ -34,7 +30,7 @@ splitA =
 
 -- sheet A with its Keep on field 1, which the Add line writes
 abbrev pub keepOne : Step
-keepOne = record { func = Keep; variable = 255; p = 1; r = 0; low = pos 2; high = pos 2 }
+keepOne = keepIn 1 (pos 2) (pos 2)
 
 abbrev pub sheetB : Sheet
 sheetB = sheetOf 1 3 0 (line 0 1 (keepOne ∷ []) ∷ line 1 2 (lessFive ∷ []) ∷ [])

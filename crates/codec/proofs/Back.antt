@@ -1,32 +1,31 @@
 -- There and back: the bytes of an accepted sheet are read as that sheet, and a sheet that is read is accepted and has the bytes that it was read from.
 -- Assumes nothing.
 use mathlib.Core.Path.{_≡_, refl, ap, _∙_, sym}
-use mathlib.Core.Bool.{Bool, true, cond}
+use mathlib.Core.Bool.{true}
 use mathlib.Core.List.{List, [], _++_, append-nil}
-use Prim.Native.Nat.{ℕ, _<_, _≤_}
+use Prim.Native.Nat.{ℕ, _<_}
 use lib.ListN.{length, getD, drop}
-use borrow.Author.Tests.{le-leb}
 use Rattle.lists.specs.Lists.{chain}
 use Rattle.lists.proofs.Build.{build-length}
 use Rattle.operator.specs.Op.{Abstract}
 use Rattle.operator.specs.Memory.{view}
 use Rattle.format.specs.Record.{opBytes}
 use Rattle.format.specs.Head.{HEAD_BYTES, headGood, headBytes}
-use Rattle.format.proofs.Heads.{head-inputs, head-queues, head-variables, head-count, after-head, head-of-bytes}
-use Rattle.format.proofs.Heads.{ranges-of-good, head-good-of-number, bytes-of-head}
+use Rattle.format.proofs.Heads.{head-inputs, head-queues, head-variables, head-count, after-head, head-of-bytes, ranges-of-good, head-good-of-number}
+use Rattle.format.proofs.Heads.{bytes-of-head}
 use Rattle.sheet.specs.declared.Sheet.{Sheet}
-use Rattle.sheet.specs.Answer.{Paper, accepted, refusedAt, isAccepted}
+use Rattle.sheet.specs.Answer.{accepted}
 use Rattle.sheet.specs.Sheet.{opAt, viewTo, viewSheet, memorySheet, HeldSheet}
-use Rattle.sheet.specs.Check.{Kept, kept, checkOf}
+use Rattle.sheet.specs.Check.{Kept, kept}
 use Rattle.sheet.proofs.Accepted.{Accepted, facts-accepted}
 use Rattle.sheet.proofs.Placed.{view-back}
 use Rattle.sheet.proofs.InMemory.{memory-back}
-use Rattle.codec.specs.Read.{readFrom, headIn, Reading, readEnd, readOf}
-use Rattle.codec.specs.Write.{sheetBytes, writing, writeOf}
-use Rattle.codec.proofs.Follow.{withAll}
-use Rattle.codec.proofs.Chain.{read-chain}
-use Rattle.codec.proofs.InMemory.{accepted-memory, follow-view, fits-view}
-use Rattle.codec.proofs.Answers.{read-good, read-ends, reading, Accepts, accepts-of-answer}
+use Rattle.codec_read.specs.Read.{readFrom, headIn, Reading, readEnd, readOf}
+use Rattle.codec_write.specs.Write.{sheetBytes}
+use Rattle.codec_read.proofs.Follow.{withAll}
+use Rattle.codec_read.proofs.Chain.{read-chain}
+use Rattle.codec_read.proofs.InMemory.{accepted-memory, follow-view, fits-view}
+use Rattle.codec_read.proofs.Answers.{read-good, read-ends, reading, Accepts, accepts-of-answer}
 
 -- the bytes of an accepted sheet are read as that sheet
 head-back : (i q v n : ℕ) (rest : List ℕ) → headIn (headBytes i q v n ++ rest) ≡ record { inputs = i; queues = q; variables = v; ops = [] }
@@ -52,19 +51,6 @@ read-of-bytes t held good =
     (ap (readFrom (length (a .ops)) (viewTo t 0)) (sym (append-nil chained)) ∙ read-chain (a .ops) (viewTo t 0) [] (follow-view t good) (fits-view t good held))
     ∙ ap (reading a) (read-ends a [] true true refl (good .defined))
     ∙ ap (λ (x : Sheet). record { answer = accepted; sheet = x }) (memory-back t (facts-accepted t good) held)
-
--- a buffer with room for an accepted sheet gets its bytes at its front
-pub write-of-room : (t : Sheet) (l bytes : List ℕ) → checkOf t ≡ accepted → sheetBytes (viewSheet t) ≡ bytes → length bytes ≤ length l →
-    writeOf t l ≡ record { answer = accepted; length = length bytes; buffer = bytes ++ drop (length bytes) l }
-unfolding writeOf
-write-of-room t l bytes h e room =
-    ap (λ (p : Paper). cond (isAccepted p) (writing (sheetBytes (viewSheet t)) l) (record { answer = p; length = 0; buffer = l })) h
-    ∙ ap (λ (b : List ℕ). writing b l) e
-    ∙ ap
-    (λ (b : Bool).
-    cond b (record { answer = accepted; length = length bytes; buffer = bytes ++ drop (length bytes) l })
-    (record { answer = refusedAt 18 0; length = 0; buffer = l }))
-    (le-leb (length bytes) (length l) room)
 
 -- the sheet that the bytes of an accepted reading stand for: its head is good, it is accepted, and its bytes are those
 module _ (s : List ℕ) (a : Accepts s) where

@@ -1,12 +1,4 @@
-pub mod Turns
-pub mod Follow
-pub mod Chain
-pub mod InMemory
-pub mod Answers
 pub mod Back
 pub mod Theorems
 pub mod OneOutcome
-pub mod Reading
-pub mod ReadEnds
-pub mod Writing
 pub mod RoundTrip

@@ -1,38 +1,13 @@
--- Reading and writing have one outcome each: two that meet the same contract are equal.
+-- The round trip of the program has one outcome: two that meet the same contract are equal.
 -- Assumes nothing.
 use mathlib.Core.Path.{_≡_, _∙_, sym}
-use mathlib.Core.Bool.{Bool}
 use mathlib.Core.List.{List}
 use Prim.Native.Nat.{ℕ}
-use Rattle.sheet.specs.declared.Answer.{Answer}
 use Rattle.sheet.specs.declared.Sheet.{Sheet}
 use Rattle.sheet.proofs.AnswerLaws.{paper-injective}
-use Rattle.codec.specs.declared.Front.{Front}
-use Rattle.codec.specs.declared.ReadSheet.{ReadSheet}
-use Rattle.codec.specs.declared.Written.{Written}
-use Rattle.codec.specs.Fronts.{Fronts, Reads, Writes, Agains}
-
-front-eq : {a a' : Answer} {t t' : Sheet} {n n' : ℕ} {w w' : Bool} → a ≡ a' → t ≡ t' → n ≡ n' → w ≡ w' →
-    _≡_ {A = Front} (record { answer = a; sheet = t; end = n; whole = w }) (record { answer = a'; sheet = t'; end = n'; whole = w' })
-front-eq p q r s = cc
-
-read-eq : {a a' : Answer} {t t' : Sheet} → a ≡ a' → t ≡ t' → _≡_ {A = ReadSheet} (record { answer = a; sheet = t }) (record { answer = a'; sheet = t' })
-read-eq p q = cc
-
-written-eq : {a a' : Answer} {n n' : ℕ} → a ≡ a' → n ≡ n' → _≡_ {A = Written} (record { answer = a; length = n }) (record { answer = a'; length = n' })
-written-eq p q = cc
-
-pub front-one : (s : List ℕ) (r r' : Front) → Fronts s r → Fronts s r' → r ≡ r'
-front-one s r r' f g =
-    front-eq (paper-injective (r .answer) (r' .answer) (f .answer ∙ sym (g .answer))) (f .sheet ∙ sym (g .sheet)) (f .end ∙ sym (g .end))
-    (f .whole ∙ sym (g .whole))
-
-pub read-one : (s : List ℕ) (r r' : ReadSheet) → Reads s r → Reads s r' → r ≡ r'
-read-one s r r' f g = read-eq (paper-injective (r .answer) (r' .answer) (f .answer ∙ sym (g .answer))) (f .sheet ∙ sym (g .sheet))
-
-pub write-one : (t : Sheet) (l m m' : List ℕ) (r r' : Written) → Writes t l m r → Writes t l m' r' → (r ≡ r') × (m ≡ m')
-write-one t l m m' r r' f g =
-    (written-eq (paper-injective (r .answer) (r' .answer) (f .answer ∙ sym (g .answer))) (f .length ∙ sym (g .length)), f .buffer ∙ sym (g .buffer))
+use Rattle.codec_read.specs.declared.ReadSheet.{ReadSheet}
+use Rattle.codec_read.proofs.OneOutcome.{read-eq}
+use Rattle.codec.specs.Again.{Agains}
 
 pub again-one : (t : Sheet) (l m m' : List ℕ) (r r' : ReadSheet) → Agains t l m r → Agains t l m' r' → (r ≡ r') × (m ≡ m')
 again-one t l m m' r r' f g =

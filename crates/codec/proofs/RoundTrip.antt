@@ -15,15 +15,14 @@ use Rattle.sheet.specs.Sheet.{viewSheet, noSheet, HeldSheet}
 use Rattle.sheet.specs.Check.{checkOf}
 use Rattle.sheet.proofs.Accepted.{Accepted, Refuses, facts-accepted, check-answers}
 use Rattle.sheet.proofs.AnswerLaws.{accepted-apart}
-use Rattle.sheet.proofs.Sheet as sheet
-use Rattle.codec.specs.declared.ReadSheet.{ReadSheet}
-use Rattle.codec.specs.declared.Written.{Written}
-use Rattle.codec.specs.Read.{Reading, readOf}
-use Rattle.codec.specs.Write.{sheetBytes, Writing, writeOf}
-use Rattle.codec.specs.Fronts.{Reads, Writes, Agains}
-use Rattle.codec.proofs.Back.{write-of-room}
+use Rattle.codec_read.specs.declared.ReadSheet.{ReadSheet}
+use Rattle.codec_write.specs.declared.Written.{Written}
+use Rattle.codec_read.specs.Read.{Reading, readOf}
+use Rattle.codec_write.specs.Write.{sheetBytes, Writing, writeOf, Writes}
+use Rattle.codec_read.specs.Fronts.{Reads}
+use Rattle.codec.specs.Again.{Agains}
 use Rattle.codec.proofs.Theorems.{read-of-written}
-use Rattle.codec.proofs.Writing.{written-accepted, written-refused, writing-short}
+use Rattle.codec_write.proofs.Writing.{written-accepted, written-refused, writing-short, write-of-room}
 
 -- an accepted writing had a checked sheet, and room for it
 record Room (t : Sheet) (l : List ℕ) : Type 0 where
@@ -55,18 +54,18 @@ module _ (t : Sheet) (l m : List ℕ) (w : Written) (wrote : Writes t l m w) whe
     had : Room t l
     had = room-of-answer t l answered
 
-    pub length-in-buffer : w .length ≤ length m
-    length-in-buffer =
+    pub size-in-buffer : w .size ≤ length m
+    size-in-buffer =
         let bytes = sheetBytes (viewSheet t) in
         let e = write-of-room t l bytes (had .good) refl (had .room) in
-        let n = wrote .length ∙ ap (λ (x : Writing). x .length) e in
+        let n = wrote .size ∙ ap (λ (x : Writing). x .size) e in
         let b = ap length (wrote .buffer ∙ ap (λ (x : Writing). x .buffer) e) ∙ length-append bytes (drop (length bytes) l) in
         omega arith
 
-    pub again-done : HeldSheet t → (r : ReadSheet) → Reads (take (w .length) m) r → Agains t l m r
+    pub again-done : HeldSheet t → (r : ReadSheet) → Reads (take (w .size) m) r → Agains t l m r
     again-done held r reads =
         let e =
-        ap (λ (n : ℕ). readOf (take n m)) (wrote .length) ∙ ap (λ (b : List ℕ). readOf (take (writeOf t l .length) b)) (wrote .buffer)
+        ap (λ (n : ℕ). readOf (take n m)) (wrote .size) ∙ ap (λ (b : List ℕ). readOf (take (writeOf t l .size) b)) (wrote .buffer)
         ∙ read-of-written t l held (had .good) (had .room) in
         let a : paper (r .answer) ≡ accepted = reads .answer ∙ ap (λ (x : Reading). x .answer) e in
         let s : r .sheet ≡ t = reads .sheet ∙ ap (λ (x : Reading). x .sheet) e in

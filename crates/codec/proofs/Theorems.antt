@@ -10,17 +10,18 @@ use Rattle.sheet.specs.Answer.{accepted, refusedAt, refused}
 use Rattle.sheet.specs.Sheet.{viewSheet, HeldSheet}
 use Rattle.sheet.specs.Check.{checkOf}
 use Rattle.sheet.proofs.Accepted.{accepted-facts, facts-accepted}
-use Rattle.codec.specs.Read.{readOf}
-use Rattle.codec.specs.Write.{sheetBytes, Writing, writeOf}
-use Rattle.codec.proofs.Answers.{refusal-bounds, refusal-has-record}
-use Rattle.codec.proofs.Back.{read-of-bytes, write-of-room, accepted-of-read, bytes-of-read}
+use Rattle.codec_read.specs.Read.{readOf}
+use Rattle.codec_write.specs.Write.{sheetBytes, Writing, writeOf}
+use Rattle.codec_read.proofs.Answers.{refusal-bounds, refusal-has-record}
+use Rattle.codec_write.proofs.Writing.{write-of-room}
+use Rattle.codec.proofs.Back.{read-of-bytes, accepted-of-read, bytes-of-read}
 
 -- a checked sheet that is written into a buffer with room for it is read back from there
 pub read-of-written : (t : Sheet) (l : List ℕ) → HeldSheet t → checkOf t ≡ accepted → length (sheetBytes (viewSheet t)) ≤ length l →
-    readOf (take (writeOf t l .length) (writeOf t l .buffer)) ≡ record { answer = accepted; sheet = t }
+    readOf (take (writeOf t l .size) (writeOf t l .buffer)) ≡ record { answer = accepted; sheet = t }
 read-of-written t l held h room =
     let bytes = sheetBytes (viewSheet t) in
-    ap (λ (w : Writing). readOf (take (w .length) (w .buffer))) (write-of-room t l bytes h refl room)
+    ap (λ (w : Writing). readOf (take (w .size) (w .buffer))) (write-of-room t l bytes h refl room)
     ∙ ap readOf (take-append-seam bytes (drop (length bytes) l)) ∙ read-of-bytes t held (accepted-facts t h)
 
 -- a sheet that is read has the bytes that it was read from, and no others
@@ -34,7 +35,7 @@ read-is-checked s t h = facts-accepted t (accepted-of-read s t h)
 
 -- a sheet that is read, and then written into a buffer with room for it, puts the same bytes there
 pub write-of-read : (s : List ℕ) (t : Sheet) (l : List ℕ) → ((k : ℕ) → getD s k 0 < 256) → readOf s ≡ record { answer = accepted; sheet = t } →
-    length s ≤ length l → writeOf t l ≡ record { answer = accepted; length = length s; buffer = s ++ drop (length s) l }
+    length s ≤ length l → writeOf t l ≡ record { answer = accepted; size = length s; buffer = s ++ drop (length s) l }
 write-of-read s t l below h room = write-of-room t l s (read-is-checked s t h) (written-of-read s t below h) room
 
 -- a reading's refusal is at one of its records: the head, an operator, or the one past the last

@@ -1,3 +1,1 @@
-pub mod Read
-pub mod Write
-pub mod Fronts
+pub mod Again

@@ -12,8 +12,8 @@ use Rattle.lists.specs.Lists.{sum}
 use Rattle.lists.proofs.Build.{order, same-or}
 use Rattle.operator.specs.Op.{Op, line, latest, double, deal, gather}
 use Rattle.operator.proofs.ViewLaws.{Small}
-use Rattle.format.specs.Head.{OPERATORS}
-use Rattle.counts.specs.Worst.{ROOM, dealWorst, dealt, worstOp}
+use Rattle.bounds.specs.Bounds.{OPERATORS, ROOM}
+use Rattle.counts.specs.Worst.{dealWorst, dealt, worstOp}
 
 -- every count is at most b
 abbrev pub Within : ℕ → List ℕ → Type 0

@@ -33,4 +33,5 @@ module _ (t : Sheet) (h : checkOf t ≡ accepted) where
 
   pub names-have-flags : (i : ℕ) → i < t .count → all (λ (v : ℕ). ltb v FLAGS) (names (view (opAt t i))) ≡ true
   names-have-flags i l =
-      all-of-members (λ (v : ℕ). ltb v FLAGS) (names (view (opAt t i))) (λ v m. lt-ltb v FLAGS (omega (arith, ranges-of-accepted t h, variable-below t h i v l m)))
+      all-of-members (λ (v : ℕ). ltb v FLAGS) (names (view (opAt t i)))
+      (λ v m. lt-ltb v FLAGS (omega (arith, ranges-of-accepted t h, variable-below t h i v l m)))

@@ -1,11 +1,11 @@
--- The worst counts: the three answers, a count that no operator changes, none from queue Q on, one for each queue, and that a deal's count covers each output's share.
+-- The worst counts: the three answers, a count that no operator changes, none from queue Q on, one for each queue,
+-- and that a deal's count covers each output's share.
 -- Assumes nothing.
 use mathlib.Core.Path.{_≡_, refl, ap, _∙_}
 use mathlib.Core.Logic.{⊎-elim}
 use mathlib.Core.Bool.{Bool, true, false, cond}
 use mathlib.Core.List.{List, [], _∷_, map}
-use Prim.Native.Nat.{ℕ, zero, suc, _+_, _-_, _/_, _<_, _≤_}
-use native.Mathlib.Nat.{div-mul-le-self, le-div-iff-mul-le}
+use Prim.Native.Nat.{ℕ, suc, _<_, _≤_}
 use native.Mathlib.Omega.{arith}
 use lib.Dec.{ltb, leb, eqb}
 use lib.ListN.{length, getD, set, length-set, List·getD-eq-default}
@@ -17,7 +17,7 @@ use Rattle.lists.proofs.Tests.{neither, all-build, any-build}
 use Rattle.lists.proofs.Places.{same-at}
 use Rattle.operator.specs.Op.{Op, line, latest, double, deal, gather, defines}
 use Rattle.operator.specs.Memory.{view}
-use Rattle.format.specs.Head.{QUEUES}
+use Rattle.bounds.specs.Bounds.{QUEUES, ROOM}
 use Rattle.sheet.specs.Answer.{accepted, refused, isAccepted}
 use Rattle.sheet.specs.Check.{checkOf}
 use Rattle.sheet.specs.Sheet.{opAt, viewSheet}
@@ -25,7 +25,7 @@ use Rattle.sheet.specs.declared.Sheet.{Sheet}
 use Rattle.sheet.proofs.Laws.{define-below}
 use Rattle.sheet.proofs.AnswerLaws.{accepted-of}
 use Rattle.sheet.proofs.Accepted.{ranges-of-accepted}
-use Rattle.counts.specs.Worst.{ROOM, feedGood, dealWorst, dealt, worstOp, worstFrom}
+use Rattle.counts.specs.Worst.{feedGood, dealWorst, dealt, worstOp, worstFrom}
 use Rattle.counts.specs.Answers.{Counting, noCounts, worstOf}
 
 -- the three answers
@@ -136,11 +136,3 @@ worst-length t fed full = cases (isAccepted (checkOf t)) (feedGood (t .inputs) f
     cases true false e f = ap (λ (c : Counting). length (c .counts)) (worst-overfed t fed (accepted-of (checkOf t) e) f)
     cases true true e f =
         ap (λ (c : Counting). length (c .counts)) (worst-counted t fed (accepted-of (checkOf t) e) f) ∙ worst-from-length fed (viewSheet t .ops) ∙ full
-
--- output j of a deal over k gets n/k items, and one more where j is below what is left of n
-div-more : (a b k : ℕ) → 0 < k → a ≤ b → a / k ≤ b / k
-div-more a b k h l = le-div-iff-mul-le h .1 (omega (arith, div-mul-le-self a k))
-
-pub deal-worst-covers : (n k j : ℕ) → j < k → (n + (k - 1 - j)) / k ≤ dealWorst n k j
-deal-worst-covers n zero j h = absurd (omega arith)
-deal-worst-covers n (suc k) j h = div-more (n + (suc k - 1 - j)) (n + k) (suc k) (omega arith) (omega arith)

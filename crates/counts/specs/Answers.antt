@@ -1,10 +1,10 @@
 -- What the calm test and the worst counts answer, on any sheet in memory.
 use mathlib.Core.Path.{_≡_}
-use mathlib.Core.Bool.{Bool, cond, _&&_}
+use mathlib.Core.Bool.{cond, _&&_}
 use mathlib.Core.List.{List}
 use Prim.Native.Nat.{ℕ}
 use lib.ListN.{replicate}
-use Rattle.format.specs.Head.{QUEUES}
+use Rattle.bounds.specs.Bounds.{QUEUES}
 use Rattle.sheet.specs.declared.Sheet.{Sheet}
 use Rattle.sheet.specs.Answer.{Paper, accepted, refused, isAccepted, paper}
 use Rattle.sheet.specs.Sheet.{viewSheet}

@@ -5,12 +5,8 @@ use mathlib.Core.List.{List, [], _∷_, map}
 use lib.Dec.{eqb, ltb, leb}
 use lib.ListN.{length, getD, set}
 use Rattle.lists.specs.Lists.{build, all, sum}
-use Rattle.operator.specs.Op.{Op, line, latest, double, deal, gather, Abstract}
-use Rattle.format.specs.Head.{QUEUES}
-
--- a queue's room
-abbrev pub ROOM : ℕ
-ROOM = 64
+use Rattle.operator.specs.Op.{Op, line, latest, double, deal, gather}
+use Rattle.bounds.specs.Bounds.{QUEUES, ROOM}
 
 -- 8: at most ROOM for each input, and 0 for a queue that is none
 unfoldable pub feedGood : ℕ → List ℕ → Bool

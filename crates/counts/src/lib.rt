@@ -6,21 +6,22 @@ use sheet::Sheet;
 ghost use mathlib.Core.Path.{_≡_};
 ghost use mathlib.Core.Bool.{cond};
 ghost use mathlib.Core.List.{map};
-ghost use Prim.Native.Nat.{ℕ, _+_, _*_, _≤_, _<_, _^_};
+ghost use Prim.Native.Nat.{ℕ, _≤_, _^_};
 ghost use lib.Dec.{ltb, leb, eqb};
-ghost use lib.ListN.{length, getD, set, replicate};
+ghost use lib.ListN.{getD, set, replicate};
 ghost use Rattle.lists.specs.Lists.{sum};
 ghost use Rattle.operator.specs.Memory.{PLACES, view, ways, Ready};
+ghost use Rattle.bounds.specs.Bounds.{QUEUES, ROOM};
 ghost use Rattle.sheet.specs.Answer.{accepted};
 ghost use Rattle.sheet.specs.Sheet.{viewSheet};
 ghost use Rattle.sheet.specs.Check.{checkOf};
 ghost use Rattle.counts.specs.Calm.{isCalm};
-ghost use Rattle.counts.specs.Worst.{ROOM, feedGood, dealWorst, dealt, worstOp, worstFrom};
+ghost use Rattle.counts.specs.Worst.{feedGood, dealWorst, dealt, worstOp, worstFrom};
 ghost use Rattle.counts.specs.Answers.{Calms, Worsts};
 
-pub const QUEUES: usize = 24;
+pub const QUEUES: usize = bounds::QUEUES as usize;
 
-pub const ROOM: u64 = 64;
+pub const ROOM: u64 = bounds::ROOM as u64;
 
 pub struct Calmness {
     pub answer: Answer,
@@ -106,7 +107,7 @@ fn deal_worst(n: u64, k: usize, j: usize) -> u64
     (n + (m - 1)) / m
 }
 
-fn deal_counts(w: [u64; QUEUES], n: u64, qs: [u8; 4], k: usize) -> [u64; QUEUES]
+fn deal_counts(w: [u64; QUEUES], n: u64, qs: [u8; operator::PLACES], k: usize) -> [u64; QUEUES]
     requires { ⌜ (n ≤ 2 ^ 60) × (k ≤ PLACES) ⌝ }
     ensures { λ r. ⌜ r ≡ dealt w n k 0 (ways k qs) ⌝ }
 {
@@ -122,7 +123,7 @@ fn deal_counts(w: [u64; QUEUES], n: u64, qs: [u8; 4], k: usize) -> [u64; QUEUES]
     r
 }
 
-fn gather_count(w: [u64; QUEUES], ps: [u8; 4], k: usize) -> u64
+fn gather_count(w: [u64; QUEUES], ps: [u8; operator::PLACES], k: usize) -> u64
     requires { ⌜ (k ≤ PLACES) × ((q : ℕ) → getD w q 0 ≤ 2 ^ 60) ⌝ }
     ensures { λ r. ⌜ r ≡ sum (map (λ p. getD w p 0) (ways k ps)) ⌝ }
 {
@@ -216,7 +217,7 @@ fn sheet_counts(t: Sheet, fed: [u64; QUEUES]) -> [u64; QUEUES]
 }
 
 fn no_counts(a: Answer) -> Counts
-    ensures { λ r. ⌜ (r .answer ≡ a) × (r .counts ≡ replicate 24 0) ⌝ }
+    ensures { λ r. ⌜ (r .answer ≡ a) × (r .counts ≡ replicate QUEUES 0) ⌝ }
 {
     Counts {
         answer: a,

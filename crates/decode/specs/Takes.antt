@@ -1,24 +1,33 @@
--- What reading one record answers, against the bytes from its place on.
-use mathlib.Core.Path.{_≡_}
+-- What reading one record answers, for any bytes: an operator's at a place, and the head's at the front.
 use mathlib.Core.List.{List}
-use Prim.Native.Nat.{ℕ, _≤_}
-use lib.ListN.{length, getD, drop}
-use Rattle.operator.specs.Memory.{memory}
+use Prim.Native.Nat.{ℕ, zero, suc, _+_}
+use lib.ListN.{getD, drop}
+use Rattle.number.specs.Number.{shortOf}
+use Rattle.operator.specs.Memory.{memory, noOperator}
 use Rattle.decode.specs.declared.Head.{Head}
-use Rattle.decode.specs.declared.Taken.{Taken}
-use Rattle.format.specs.Record.{taken, refusalIn, opIn, restIn}
+use Rattle.decode.specs.declared.TakenRecord.{TakenRecord}
+use Rattle.format.specs.Record as format
 use Rattle.format.specs.Head.{headNumber}
 
--- the refusal, or 0 with the operator in memory and the place where what is left starts
-pub record Takes (s : List ℕ) (at : ℕ) (r : Taken) : Type 0 where
-  pub number : r .number ≡ refusalIn (taken (drop at s))
-  pub op : r .number ≡ 0 → r .op ≡ memory (opIn (taken (drop at s)))
-  pub rest : r .number ≡ 0 → drop (r .next) s ≡ restIn (taken (drop at s))
-  pub inside : r .next ≤ length s
+-- a refusal, with nothing in the other places
+abbrev pub noRecord : ℕ → TakenRecord
+noRecord n = record { number = n; next = 0; op = noOperator }
 
-pub record HeadTakes (s : List ℕ) (r : Head) : Type 0 where
-  pub number : r .number ≡ headNumber s
-  pub inputs : r .number ≡ 0 → r .inputs ≡ getD s 4 0
-  pub queues : r .number ≡ 0 → r .queues ≡ getD s 5 0
-  pub variables : r .number ≡ 0 → r .variables ≡ getD s 6 0
-  pub count : r .number ≡ 0 → r .count ≡ getD s 7 0
+-- the operator in memory, and where its record, a header and a body, ends; or the refusal
+abbrev pub recordAs : List ℕ → ℕ → format.Taken → TakenRecord
+recordAs s at (format.bad n) = noRecord n
+recordAs s at (format.took o rest) = record { number = 0; next = at + format.HEADER + shortOf (drop at s); op = memory o }
+
+unfoldable pub recordAt : List ℕ → ℕ → TakenRecord
+recordAt s at = recordAs s at (format.taken (drop at s))
+
+abbrev pub noHead : ℕ → Head
+noHead n = record { number = n; inputs = 0; queues = 0; variables = 0; count = 0 }
+
+-- the head's four numbers where it is not refused
+abbrev pub headAs : ℕ → List ℕ → Head
+headAs zero s = record { number = 0; inputs = getD s 4 0; queues = getD s 5 0; variables = getD s 6 0; count = getD s 7 0 }
+headAs (suc n) s = noHead (suc n)
+
+unfoldable pub headTaken : List ℕ → Head
+headTaken s = headAs (headNumber s) s

@@ -11,17 +11,16 @@ ghost use Rattle.step.specs.Step.{STEP_BYTES, stepOf, noStep};
 ghost use Rattle.operator.specs.Memory.{PLACES, memory};
 ghost use Rattle.format.specs.Record.{kindOf, cut, bodyGood, opOf};
 ghost use Rattle.format.specs.Head.{headGood};
-ghost use Rattle.decode.specs.Takes.{Takes, HeadTakes};
+ghost use Rattle.decode.specs.Takes.{noRecord, recordAt, noHead, headTaken};
 
-pub const HEADER: usize = 4;
+// A line's body is in, out and one to PLACES steps; a deal's or a gather's a cursor, a queue and two to PLACES ways.
+const LINE_LEAST: usize = 2 + step::STEP_BYTES;
 
-pub const INPUTS: u8 = 4;
+const LINE_MOST: usize = 2 + step::STEP_BYTES * operator::PLACES;
 
-pub const QUEUES: u8 = 24;
+const WAYS_LEAST: usize = 2 + 2;
 
-pub const VARIABLES: u8 = 16;
-
-pub const OPERATORS: u8 = 16;
+const WAYS_MOST: usize = 2 + operator::PLACES;
 
 // The refusals: a record that is cut short or whose body length is not its kind's, an unknown kind, a head out of its ranges.
 const BAD_LENGTH: u8 = 1;
@@ -35,13 +34,13 @@ pub const NO_OPERATOR: Operator = Operator {
     count: 0,
     variable: 0,
     field: 0,
-    ins: [0; 4],
-    outs: [0; 4],
-    steps: [step::NO_STEP; 4],
+    ins: [0; operator::PLACES],
+    outs: [0; operator::PLACES],
+    steps: [step::NO_STEP; operator::PLACES],
 };
 
 // An operator's record that was read: its refusal, 0 for none, where the next record starts, and the operator.
-pub struct Taken {
+pub struct TakenRecord {
     pub number: u8,
     pub next: usize,
     pub op: Operator,
@@ -74,32 +73,32 @@ pub fn is_cut(s: &[u8], at: usize) -> bool
     requires { ⌜ at ≤ length (now s) ⌝ }
     ensures { λ r. ⌜ r ≡ cut (drop at (now (s .entry))) ⌝ }
 {
-    if s.len() - at < HEADER {
+    if s.len() - at < format::HEADER {
         return true;
     }
     let body = number::short_at(s, at);
-    s.len() - at - HEADER < body
+    s.len() - at - format::HEADER < body
 }
 
 fn line_length(n: usize) -> bool
     ensures { λ r. ⌜ r ≡ bodyGood Kind.Line n ⌝ }
 {
-    if n < 14 {
+    if n < LINE_LEAST {
         return false;
     }
-    if 50 < n {
+    if LINE_MOST < n {
         return false;
     }
-    (n - 2) % 12 == 0
+    (n - 2) % step::STEP_BYTES == 0
 }
 
 fn ways_length(n: usize) -> bool
     ensures { λ r. ⌜ r ≡ bodyGood Kind.Deal n ⌝ }
 {
-    if n < 4 {
+    if n < WAYS_LEAST {
         return false;
     }
-    n <= 6
+    n <= WAYS_MOST
 }
 
 fn body_good(k: Kind, n: usize) -> bool
@@ -115,25 +114,25 @@ fn body_good(k: Kind, n: usize) -> bool
     }
 }
 
-fn steps_at(s: &[u8], at: usize, n: usize) -> [Step; 4]
+fn steps_at(s: &[u8], at: usize, n: usize) -> [Step; operator::PLACES]
     requires { ⌜ (n ≤ PLACES) × (at + STEP_BYTES * n ≤ length (now s)) ⌝ }
     ensures { λ r. ⌜ r ≡ pad PLACES noStep (build n (λ k. stepOf (drop (at + STEP_BYTES * k) (now (s .entry))))) ⌝ }
 {
-    let mut steps = [step::NO_STEP; 4];
+    let mut steps = [step::NO_STEP; operator::PLACES];
     let mut i = 0;
     while i < n {
-        let t = step::step_at(s, at + 12 * i);
+        let t = step::step_at(s, at + step::STEP_BYTES * i);
         steps[i] = t;
         i += 1;
     }
     steps
 }
 
-fn ways_at(s: &[u8], at: usize, n: usize) -> [u8; 4]
+fn ways_at(s: &[u8], at: usize, n: usize) -> [u8; operator::PLACES]
     requires { ⌜ (n ≤ PLACES) × (at + n ≤ length (now s)) ⌝ }
     ensures { λ r. ⌜ r ≡ pad PLACES 0 (build n (λ k. getD (now (s .entry)) (at + k) 0)) ⌝ }
 {
-    let mut queues = [0u8; 4];
+    let mut queues = [0u8; operator::PLACES];
     let mut i = 0;
     while i < n {
         queues[i] = s[at + i];
@@ -147,7 +146,7 @@ fn line_at(s: &[u8], at: usize, n: usize) -> Operator
     requires { ⌜ (at + n ≤ length (now s)) × (bodyGood Kind.Line n ≡ true) ⌝ }
     ensures { λ r. ⌜ r ≡ memory (opOf Kind.Line n (drop at (now (s .entry)))) ⌝ }
 {
-    let count = (n - 2) / 12;
+    let count = (n - 2) / step::STEP_BYTES;
     let steps = steps_at(s, at + 2, count);
     Operator {
         kind: Kind::Line,
@@ -170,8 +169,8 @@ fn latest_at(s: &[u8], at: usize) -> Operator
         variable: s[at + 1],
         field: s[at + 2],
         ins: [s[at], 0, 0, 0],
-        outs: [0; 4],
-        steps: [step::NO_STEP; 4],
+        outs: [0; operator::PLACES],
+        steps: [step::NO_STEP; operator::PLACES],
     }
 }
 
@@ -186,7 +185,7 @@ fn double_at(s: &[u8], at: usize) -> Operator
         field: 0,
         ins: [s[at], 0, 0, 0],
         outs: [s[at + 1], s[at + 2], 0, 0],
-        steps: [step::NO_STEP; 4],
+        steps: [step::NO_STEP; operator::PLACES],
     }
 }
 
@@ -202,7 +201,7 @@ fn deal_at(s: &[u8], at: usize, n: usize) -> Operator
         field: 0,
         ins: [s[at + 1], 0, 0, 0],
         outs,
-        steps: [step::NO_STEP; 4],
+        steps: [step::NO_STEP; operator::PLACES],
     }
 }
 
@@ -219,7 +218,7 @@ fn gather_at(s: &[u8], at: usize, n: usize) -> Operator
         field: 0,
         ins,
         outs: [output, 0, 0, 0],
-        steps: [step::NO_STEP; 4],
+        steps: [step::NO_STEP; operator::PLACES],
     }
 }
 
@@ -237,10 +236,10 @@ fn operator_at(s: &[u8], at: usize, k: Kind, n: usize) -> Operator
     }
 }
 
-fn refused(number: u8) -> Taken
-    ensures { λ r. ⌜ (r .number ≡ number) × (r .next ≡ 0) ⌝ }
+fn refused(number: u8) -> TakenRecord
+    ensures { λ r. ⌜ r ≡ noRecord number ⌝ }
 {
-    Taken {
+    TakenRecord {
         number,
         next: 0,
         op: NO_OPERATOR,
@@ -248,9 +247,9 @@ fn refused(number: u8) -> Taken
 }
 
 // The operator's record at `at`, or its refusal.
-pub fn take(s: &[u8], at: usize) -> Taken
+pub fn take(s: &[u8], at: usize) -> TakenRecord
     requires { ⌜ at ≤ length (now s) ⌝ }
-    ensures { λ r. ⌜ Takes (now (s .entry)) at r ⌝ }
+    ensures { λ r. ⌜ r ≡ recordAt (now (s .entry)) at ⌝ }
 {
     if is_cut(s, at) {
         return refused(BAD_LENGTH);
@@ -264,10 +263,10 @@ pub fn take(s: &[u8], at: usize) -> Taken
     if !body_good(k, n) {
         return refused(BAD_LENGTH);
     }
-    let body = at + HEADER;
+    let body = at + format::HEADER;
     let op = operator_at(s, body, k, n);
     let next = body + n;
-    Taken {
+    TakenRecord {
         number: 0,
         next,
         op,
@@ -280,23 +279,23 @@ pub fn head_good(inputs: u8, queues: u8, variables: u8, count: u8) -> bool
     if inputs < 1 {
         return false;
     }
-    if INPUTS < inputs {
+    if bounds::INPUTS < inputs {
         return false;
     }
     if queues < inputs {
         return false;
     }
-    if QUEUES < queues {
+    if bounds::QUEUES < queues {
         return false;
     }
-    if VARIABLES < variables {
+    if bounds::VARIABLES < variables {
         return false;
     }
-    count <= OPERATORS
+    count <= bounds::OPERATORS
 }
 
 fn no_head(number: u8) -> Head
-    ensures { λ r. ⌜ r .number ≡ number ⌝ }
+    ensures { λ r. ⌜ r ≡ noHead number ⌝ }
 {
     Head {
         number,
@@ -309,7 +308,7 @@ fn no_head(number: u8) -> Head
 
 // The head at the front, or its refusal.
 pub fn take_head(s: &[u8]) -> Head
-    ensures { λ r. ⌜ HeadTakes (now (s .entry)) r ⌝ }
+    ensures { λ r. ⌜ r ≡ headTaken (now (s .entry)) ⌝ }
 {
     if is_cut(s, 0) {
         return no_head(BAD_LENGTH);
@@ -317,7 +316,7 @@ pub fn take_head(s: &[u8]) -> Head
     if number::short_at(s, 2) != 1 {
         return no_head(BAD_KIND);
     }
-    if number::short_at(s, 0) != 4 {
+    if number::short_at(s, 0) != format::HEAD_BODY {
         return no_head(BAD_LENGTH);
     }
     let inputs = s[4];

@@ -11,7 +11,8 @@ use borrow.Author.Tests.{ltb-true, eqb-true}
 use Rattle.lists.specs.Lists.{all, chain}
 use Rattle.lists.proofs.Build.{never, never'}
 use Rattle.lists.proofs.Tests.{both, all-build, all-chain}
-use Rattle.step.specs.Step.{FIELDS, noStep, codeOf, knownFunc, rowOf, stepNames, fieldPlace, stepPlaces, blank}
+use Rattle.step.specs.Step.{noStep, codeOf, knownFunc, rowOf, stepNames, fieldPlace, stepPlaces, blank}
+use Rattle.bounds.specs.Bounds.{FIELDS, VARIABLES}
 use Rattle.step.specs.declared.Func.{Func}
 use Rattle.step.specs.declared.Step.{Step}
 use Rattle.step.proofs.Blank.{code-zero}
@@ -21,7 +22,7 @@ use Rattle.operator.specs.declared.Operator.{Operator}
 use Rattle.operator.specs.Op.{Op, line, latest, double, deal, gather, names}
 use Rattle.operator.specs.Memory.{shapeOf, isEmpty, memoryNumber, stepsIn, viewAs, view}
 use Rattle.operator.proofs.ViewLaws.{Tidy, tidy-of-number, tidy-parts, ready-of-number}
-use Rattle.effect.specs.Able.{VARIABLES, StepAble, Able}
+use Rattle.effect.specs.Able.{StepAble, Able}
 
 -- the places of the steps and the field are good, as rule 7 of a sheet has it
 abbrev pub sound : Op → Bool

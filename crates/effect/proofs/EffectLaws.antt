@@ -15,7 +15,7 @@ use Rattle.lists.proofs.Build.{never}
 use Rattle.lists.proofs.Tests.{both, both-of, all-getD}
 use Rattle.lists.proofs.Times.{fresh-times}
 use Rattle.lists.proofs.Members.{member-at, is-only, not-only}
-use Rattle.store.specs.Store.{FIELDS}
+use Rattle.bounds.specs.Bounds.{FIELDS}
 use Rattle.store.specs.declared.Item.{Item}
 use Rattle.operator.specs.Op.{Op, line, latest, double, deal, gather, defines, names, cursors}
 use Rattle.effect.specs.Flow.{lined}

@@ -3,13 +3,11 @@ use mathlib.Core.Path.{_≡_}
 use mathlib.Core.Bool.{true}
 use Prim.Native.Nat.{ℕ, _<_}
 use lib.ListN.{getD}
-use Rattle.step.specs.Step.{FIELDS, noStep, rowOf}
+use Rattle.step.specs.Step.{noStep, rowOf}
+use Rattle.bounds.specs.Bounds.{FIELDS, VARIABLES}
 use Rattle.step.specs.declared.Step.{Step}
 use Rattle.operator.specs.Memory.{Ready}
 use Rattle.operator.specs.declared.Operator.{Operator}
-
-abbrev pub VARIABLES : ℕ
-VARIABLES = 16
 
 -- its fields and its variable, if it takes one, are in range
 pub record StepAble (s : Step) : Type 0 where

@@ -9,14 +9,14 @@ ghost use mathlib.Core.Bool.{true, cond};
 ghost use Prim.Native.Nat.{_<_};
 ghost use lib.ListN.{getD, set};
 ghost use lib.IntN.{pos};
-ghost use Rattle.step.specs.Step.{FIELDS};
+ghost use Rattle.bounds.specs.Bounds.{FIELDS, VARIABLES};
 ghost use Rattle.operator.specs.Memory.{view, stepsIn};
 ghost use Rattle.effect.specs.Flow.{fieldOf, varOf, withField, withVar, dropped, addOf, countOf, stepped, lined};
 ghost use Rattle.number.specs.Number.{between};
 ghost use Rattle.effect.specs.Effect.{cursorAt, movedOn, lineResult, effect, waits, inWays, cursorGood, putsOf, resultOf, sent};
-ghost use Rattle.effect.specs.Able.{VARIABLES, StepAble, Able};
+ghost use Rattle.effect.specs.Able.{StepAble, Able};
 
-pub const VARIABLES: usize = 16;
+pub const VARIABLES: usize = bounds::VARIABLES as usize;
 
 // An item on its way through a line, and the variables.
 pub struct Flow {

@@ -9,12 +9,8 @@ ghost use lib.Seq.{sets};
 ghost use Rattle.lists.specs.Lists.{chain};
 ghost use Rattle.step.specs.Step.{STEP_BYTES, stepBytes};
 ghost use Rattle.operator.specs.Memory.{PLACES, view, ways, stepsIn, Ready};
-ghost use Rattle.format.specs.Record.{kindCode, opBytes, bodyBytes};
-ghost use Rattle.format.specs.Head.{headBytes};
-
-pub const HEADER: usize = 4;
-
-pub const HEAD_BYTES: usize = 8;
+ghost use Rattle.format.specs.Record.{BODY_MOST, RECORD_MOST, kindCode, opBytes, bodyBytes};
+ghost use Rattle.format.specs.Head.{HEAD_BYTES, headBytes};
 
 fn kind_code(k: Kind) -> usize
     ensures { λ r. ⌜ r ≡ kindCode k ⌝ }
@@ -32,13 +28,13 @@ fn kind_code(k: Kind) -> usize
 // How many bytes an operator's body has.
 fn body_length(o: Operator) -> usize
     requires { ⌜ Ready o ⌝ }
-    ensures { λ r. ⌜ (r ≡ length (bodyBytes (view o))) × (r ≤ 50) ⌝ }
+    ensures { λ r. ⌜ (r ≡ length (bodyBytes (view o))) × (r ≤ BODY_MOST) ⌝ }
 {
     let k = o.kind;
     let n = o.count as usize;
     match k {
         Kind::Empty => 3,
-        Kind::Line => 2 + 12 * n,
+        Kind::Line => 2 + step::STEP_BYTES * n,
         Kind::Latest => 3,
         Kind::Double => 3,
         Kind::Deal => 2 + n,
@@ -49,24 +45,24 @@ fn body_length(o: Operator) -> usize
 // How many bytes an operator's record has.
 pub fn record_length(o: Operator) -> usize
     requires { ⌜ Ready o ⌝ }
-    ensures { λ r. ⌜ (r ≡ length (opBytes (view o))) × (r ≤ 54) ⌝ }
+    ensures { λ r. ⌜ (r ≡ length (opBytes (view o))) × (r ≤ RECORD_MOST) ⌝ }
 {
-    HEADER + body_length(o)
+    format::HEADER + body_length(o)
 }
 
-fn put_steps(s: &mut [u8], at: usize, steps: [Step; 4], n: usize)
+fn put_steps(s: &mut [u8], at: usize, steps: [Step; operator::PLACES], n: usize)
     requires { ⌜ (n ≤ PLACES) × (at + STEP_BYTES * n ≤ length (now s)) ⌝ }
     ensures { λ _. ⌜ now (s .exit) ≡ sets (now (s .entry)) at (chain stepBytes (stepsIn n steps)) ⌝ }
 {
     let mut i = 0;
     while i < n {
         let t = steps[i];
-        step::put_step(s, at + 12 * i, t);
+        step::put_step(s, at + step::STEP_BYTES * i, t);
         i += 1;
     }
 }
 
-fn put_ways(s: &mut [u8], at: usize, queues: [u8; 4], n: usize)
+fn put_ways(s: &mut [u8], at: usize, queues: [u8; operator::PLACES], n: usize)
     requires { ⌜ (n ≤ PLACES) × (at + n ≤ length (now s)) ⌝ }
     ensures { λ _. ⌜ now (s .exit) ≡ sets (now (s .entry)) at (ways n queues) ⌝ }
 {
@@ -153,15 +149,15 @@ pub fn put(s: &mut [u8], at: usize, o: Operator)
     let code = kind_code(k);
     number::put_short(s, at, n);
     number::put_short(s, at + 2, code);
-    put_body(s, at + 4, o);
+    put_body(s, at + format::HEADER, o);
 }
 
 // Writes the head at the front.
 pub fn put_head(s: &mut [u8], inputs: u8, queues: u8, variables: u8, count: u8)
-    requires { ⌜ 8 ≤ length (now s) ⌝ }
+    requires { ⌜ HEAD_BYTES ≤ length (now s) ⌝ }
     ensures { λ _. ⌜ now (s .exit) ≡ sets (now (s .entry)) 0 (headBytes inputs queues variables count) ⌝ }
 {
-    number::put_short(s, 0, 4);
+    number::put_short(s, 0, format::HEAD_BODY);
     number::put_short(s, 2, 1);
     s[4] = inputs;
     s[5] = queues;

@@ -3,7 +3,7 @@
 use mathlib.Core.Path.{_≡_, refl}
 use mathlib.Core.Bool.{Bool, true, false, cond, _&&_}
 use mathlib.Core.List.{List, [], _∷_, _++_}
-use Prim.Native.Nat.{ℕ, _+_, _<_, _≤_}
+use Prim.Native.Nat.{ℕ, _<_, _≤_}
 use native.Mathlib.Omega.{arith}
 use lib.Dec.{eqb, leb, lit<}
 use lib.ListN.{length, getD, take, drop, length-drop}
@@ -12,7 +12,8 @@ use borrow.Author.Tests.{leb-true, eqb-true}
 use Rattle.number.specs.Number.{shortOf, shortBytes}
 use Rattle.lists.proofs.Tests.{both}
 use Rattle.format.specs.Record.{HEADER, cut, recordBytes}
-use Rattle.format.specs.Head.{INPUTS, QUEUES, VARIABLES, OPERATORS, HEAD_BYTES, headGood, headNumber, headBytes}
+use Rattle.format.specs.Head.{HEAD_BYTES, headGood, headNumber, headBytes}
+use Rattle.bounds.specs.Bounds.{OPERATORS, VARIABLES, QUEUES, INPUTS}
 use Rattle.format.proofs.Fronts.{room-of-cut, front-back, length-in-front, kind-in-front, record-not-cut}
 
 -- what a good head says
@@ -42,9 +43,6 @@ ranges-of-good i q v n h =
     }
 
 module _ (i q v n : ℕ) where
-  pub head-below : headGood i q v n ≡ true → (i < 256) × (q < 256) × (v < 256) × (n < 256)
-  head-below h = let r = ranges-of-good i q v n h in (omega arith, omega arith, omega arith, omega arith)
-
   pub length-head-bytes : length (headBytes i q v n) ≡ HEAD_BYTES
   unfolding recordBytes shortBytes
   length-head-bytes = refl

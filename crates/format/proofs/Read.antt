@@ -16,14 +16,13 @@ use Rattle.lists.proofs.Build.{order, never, never', build-length, build-getD, 
 use Rattle.lists.proofs.Tests.{both}
 use Rattle.step.specs.Step.{STEP_BYTES, noStep, stepOf, stepBytes}
 use Rattle.step.specs.declared.Step.{Step}
-use Rattle.step.proofs.Back.{step-fits}
 use Rattle.operator.specs.Op.{Op}
 use Rattle.operator.specs.Memory.{PLACES, isEmpty}
 use Rattle.operator.specs.declared.Kind.{Kind}
 use Rattle.operator.specs.declared.Kind.the-variants.{Empty, Line, Latest, Double, Deal, Gather}
 use Rattle.operator.proofs.ViewLaws.{Small}
 use Rattle.format.specs.Record.{HEADER, kindOf, kindCode, kindIn, bodyBytes, opBytes, cut, bodyGood, waysOf, opOf, bad, took, taken}
-use Rattle.format.proofs.Sizes.{FitsStep, FitsSteps, FitsOp, knownSteps, knownOp}
+use Rattle.format.proofs.Sizes.{FitsStep, FitsSteps, knownSteps, knownOp}
 use Rattle.format.proofs.Codes.{code-of-kind}
 use Rattle.format.proofs.Steps.{bytes-of-steps}
 use Rattle.format.proofs.Fronts.{room-of-cut, drop-below, front-back}
@@ -112,16 +111,6 @@ steps-fit n g h k =
     (λ (l : n ≤ k). rw (List·getD-eq-default (build n g) noStep {n = k} (rw (build-length n g) l)) no-step-fits)
     (order k n)
 
-fits-body : (k : Kind) (n : ℕ) (b : List ℕ) → ((j : ℕ) → getD b j 0 < 256) → FitsOp (opOf k n b)
-fits-body Empty n b h = tt
-fits-body Line n b h =
-    steps-fit ((n - 2) / STEP_BYTES) (λ (k : ℕ). stepOf (drop (2 + STEP_BYTES * k) b))
-    (λ k. let f = step-fits (drop (2 + STEP_BYTES * k) b) (drop-below (2 + STEP_BYTES * k) b h) in record { low = f .0; high = f .1 })
-fits-body Latest n b h = tt
-fits-body Double n b h = tt
-fits-body Deal n b h = tt
-fits-body Gather n b h = tt
-
 -- and that its bytes are those of the operator
 two-and : (b : List ℕ) (n m : ℕ) → n ≡ 2 + m → n ≤ length b → getD b 0 0 ∷ getD b 1 0 ∷ take m (drop 2 b) ≡ take n b
 two-and [] n m e l = absurd (omega arith)
@@ -171,11 +160,6 @@ module _ (s : List ℕ) (o : Op) (rest : List ℕ) where
   small-of-taken h =
       let f = from-of-taken s o rest h in
       rw (f .op) (small-body (kindOf (shortOf (drop 2 s))) (shortOf s) (drop HEADER s) (f .good))
-
-  pub fits-of-taken : ((k : ℕ) → getD s k 0 < 256) → taken s ≡ took o rest → FitsOp o
-  fits-of-taken below h =
-      let f = from-of-taken s o rest h in
-      rw (f .op) (fits-body (kindOf (shortOf (drop 2 s))) (shortOf s) (drop HEADER s) (drop-below HEADER s below))
 
   pub rest-below : ((k : ℕ) → getD s k 0 < 256) → taken s ≡ took o rest → (k : ℕ) → getD rest k 0 < 256
   rest-below below h k =

@@ -15,7 +15,7 @@ use Rattle.step.specs.declared.Step.{Step}
 use Rattle.step.proofs.Back.{length-step-bytes}
 use Rattle.operator.specs.Op.{Op, line, latest, double, deal, gather}
 use Rattle.operator.proofs.ViewLaws.{Small}
-use Rattle.format.specs.Record.{HEADER, recordBytes, bodyBytes, opBytes}
+use Rattle.format.specs.Record.{HEADER, BODY_MOST, recordBytes, bodyBytes}
 
 -- a step's two numbers are of 32 bits; past its end a list of steps holds `noStep`, whose numbers are 0
 pub record FitsStep (t : Step) : Type 0 where
@@ -51,13 +51,9 @@ pub length-record-bytes : (n : ℕ) (b : List ℕ) → length (recordBytes n b) 
 unfolding recordBytes
 length-record-bytes n b = simp (length-append, length-short-bytes) (omega arith)
 
-pub length-body-bytes : (o : Op) → Small o → length (bodyBytes o) ≤ 50
+pub length-body-bytes : (o : Op) → Small o → length (bodyBytes o) ≤ BODY_MOST
 length-body-bytes (line p q ss) h = omega (arith, length-steps-bytes ss)
 length-body-bytes (latest p v f) h = omega arith
 length-body-bytes (double p q r) h = omega arith
 length-body-bytes (deal c p qs) h = omega arith
 length-body-bytes (gather c q ps) h = omega arith
-
-pub length-op-bytes : (o : Op) → Small o → length (opBytes o) ≤ 54
-unfolding opBytes
-length-op-bytes o h = simp length-record-bytes (omega (arith, length-body-bytes o h))

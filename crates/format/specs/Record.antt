@@ -1,6 +1,6 @@
 -- The record format: body length, kind, body; everything little-endian. An operator's record both ways.
 use Prim.Native.Nat.{ℕ, _+_, _*_, _-_, _/_, _%_}
-use mathlib.Core.Bool.{Bool, true, false, cond, _&&_, _||_}
+use mathlib.Core.Bool.{Bool, false, cond, _&&_, _||_}
 use mathlib.Core.List.{List, [], _∷_, _++_}
 use lib.Dec.{eqb, ltb, leb}
 use lib.ListN.{length, getD, drop}
@@ -35,10 +35,17 @@ recordBytes kind body = shortBytes (length body) ++ (shortBytes kind ++ body)
 unfoldable pub cut : List ℕ → Bool
 cut s = ltb (length s) HEADER || ltb (length s - HEADER) (shortOf s)
 
+-- the longest body is a line's: in, out and its steps
+abbrev pub BODY_MOST : ℕ
+BODY_MOST = 2 + STEP_BYTES * PLACES
+
+abbrev pub RECORD_MOST : ℕ
+RECORD_MOST = HEADER + BODY_MOST
+
 -- a body's length is its kind's: in, out and 1 to 4 steps; three places; a cursor, a queue and 2 to 4 ways
 unfoldable pub bodyGood : Kind → ℕ → Bool
 bodyGood Empty n = false
-bodyGood Line n = leb (2 + STEP_BYTES) n && (leb n (2 + STEP_BYTES * PLACES) && eqb ((n - 2) % STEP_BYTES) 0)
+bodyGood Line n = leb (2 + STEP_BYTES) n && (leb n BODY_MOST && eqb ((n - 2) % STEP_BYTES) 0)
 bodyGood Latest n = eqb n 3
 bodyGood Double n = eqb n 3
 bodyGood Deal n = leb 4 n && leb n (2 + PLACES)

@@ -1,14 +1,20 @@
 -- What is known of the operators kept: by its parts, and with one operator more.
 -- Assumes nothing.
-use mathlib.Core.Path.{_≡_, _∙_, fun-ext}
-use mathlib.Core.Bool.{Bool, _||_, or-comm, or-false}
+use mathlib.Core.Path.{_≡_, ap, _∙_, fun-ext}
+use mathlib.Core.Bool.{Bool, cond, _||_, or-comm, or-false}
 use mathlib.Core.List.{List, [], _∷_, _++_}
 use Prim.Native.Nat.{ℕ}
 use lib.Dec.{ltb}
+use borrow.Author.Tests.{eq-eqb}
 use Rattle.lists.specs.Lists.{any, member}
 use Rattle.lists.proofs.Tests.{any-append, or-first}
 use Rattle.operator.specs.Op.{Op, Abstract, reads, defines, names, cursors, with}
+use Rattle.operator.specs.Memory.{view}
+use Rattle.operator.specs.declared.Operator.{Operator}
+use Rattle.judge.specs.declared.Admitted.{Admitted}
+use Rattle.judge.specs.declared.Seen.{Seen}
 use Rattle.judge.specs.Judge.{Known, known, after}
+use Rattle.judge.specs.Seen.{knownBy, Admits}
 
 pub known-eq : {d d' u u' n n' c c' : ℕ → Bool} → d ≡ d' → u ≡ u' → n ≡ n' → c ≡ c' →
     _≡_ {A = Known} (record { defined = d; used = u; named = n; cursor = c }) (record { defined = d'; used = u'; named = n'; cursor = c' })
@@ -25,3 +31,9 @@ known-with a o =
     (fun-ext (λ (q : ℕ). any-last (λ (x : Op). member q (reads x)) (a .ops) o))
     (fun-ext (λ (v : ℕ). any-last (λ (x : Op). member v (names x)) (a .ops) o))
     (fun-ext (λ (v : ℕ). any-last (λ (x : Op). member v (cursors x)) (a .ops) o))
+
+-- an operator that is kept is known from then on
+pub known-of-kept : {queues variables : ℕ} {seen : Seen} {o : Operator} {r : Admitted} → Admits queues variables seen o r → r .number ≡ 0 →
+    knownBy (r .seen) ≡ after (knownBy seen) (view o)
+known-of-kept {seen = seen} {o = o} {r = r} a e =
+    a .known ∙ ap (λ (b : Bool). cond b (after (knownBy seen) (view o)) (knownBy seen)) (eq-eqb (r .number) 0 e)

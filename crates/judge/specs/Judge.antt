@@ -1,10 +1,11 @@
 -- The judge of one operator after those kept before it: refusals 4 to 7, each over all of the record's places before the next.
 use Prim.Native.Nat.{ℕ}
-use mathlib.Core.Bool.{Bool, true, false, cond, not, _&&_, _||_}
+use mathlib.Core.Bool.{Bool, true, cond, not, _&&_, _||_}
 use mathlib.Core.List.{List}
-use lib.Dec.{eqb, ltb}
+use lib.Dec.{ltb}
 use Rattle.lists.specs.Lists.{build, all, any, member, fresh}
-use Rattle.step.specs.Step.{FIELDS, stepVariable, stepPlaces}
+use Rattle.step.specs.Step.{stepVariable, stepPlaces}
+use Rattle.bounds.specs.Bounds.{FIELDS}
 use Rattle.operator.specs.Op.{Op, line, latest, double, deal, gather, Abstract, reads, defines, names, cursors}
 
 -- what is known of the operators kept: which queues are defined and which are read, which variables are named and which are cursors

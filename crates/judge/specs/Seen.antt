@@ -1,8 +1,8 @@
 -- What is known of the operators kept, as flags; and what the judge's function answers.
 use mathlib.Core.Path.{_≡_}
-use mathlib.Core.Bool.{Bool, true}
+use mathlib.Core.Bool.{true, cond}
 use Prim.Native.Nat.{ℕ}
-use lib.Dec.{ltb}
+use lib.Dec.{eqb, ltb}
 use Rattle.lists.specs.Lists.{all, has}
 use Rattle.operator.specs.Op.{reads, defines}
 use Rattle.operator.specs.Memory.{view}
@@ -22,7 +22,7 @@ pub record Flagged (o : Operator) : Type 0 where
   pub ins : all (λ (q : ℕ). ltb q FLAGS) (reads (view o)) ≡ true
   pub outs : all (λ (q : ℕ). ltb q FLAGS) (defines (view o)) ≡ true
 
--- what the judge answers: its number, and what is known with the operator kept
+-- what the judge answers: its number, and what is then known: with the operator where it is kept, else what was known before
 pub record Admits (queues variables : ℕ) (seen : Seen) (o : Operator) (r : Admitted) : Type 0 where
   pub number : r .number ≡ judgeBy queues variables (knownBy seen) (view o)
-  pub next : r .number ≡ 0 → knownBy (r .seen) ≡ after (knownBy seen) (view o)
+  pub known : knownBy (r .seen) ≡ cond (eqb (r .number) 0) (after (knownBy seen) (view o)) (knownBy seen)

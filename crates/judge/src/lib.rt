@@ -3,17 +3,15 @@ mod steps;
 
 use operator::Kind;
 use operator::Operator;
-use step::Step;
 ghost use mathlib.Core.Path.{_≡_};
 ghost use mathlib.Core.Bool.{true, not, _&&_, _||_};
 ghost use mathlib.Core.List.{[]};
 ghost use Prim.Native.Nat.{_≤_};
 ghost use lib.ListN.{set};
 ghost use lib.Dec.{ltb};
-ghost use Rattle.lists.specs.Lists.{all, member, fresh, has, chain};
-ghost use Rattle.step.specs.Step.{stepPlaces, stepVariable, stepNames};
+ghost use Rattle.lists.specs.Lists.{all, member, fresh, has};
 ghost use Rattle.operator.specs.Op.{names, cursors};
-ghost use Rattle.operator.specs.Memory.{PLACES, ways, view, stepsIn, Ready};
+ghost use Rattle.operator.specs.Memory.{PLACES, ways, view, Ready};
 ghost use Rattle.judge.specs.Judge.{four, five, variablesGood, six, seven, judgeBy, knownOf, after, whole};
 ghost use Rattle.judge.specs.Seen.{FLAGS, knownBy, Flagged, Admits};
 
@@ -127,6 +125,8 @@ fn is_fresh(s: [bool; FLAGS], qs: [u8; operator::PLACES], n: usize) -> bool
     }
     true
 }
+
+// The functions below take an operator whose count is in range and that is not empty: what `memory_number` answers 0 to is such a one.
 
 // Variables below V, and none given where none is taken.
 fn variables_good(o: Operator, variables: u8) -> bool
@@ -273,7 +273,7 @@ fn fields_good(o: Operator) -> bool
     match k {
         Kind::Empty => true,
         Kind::Line => steps::steps_places_good(steps, n),
-        Kind::Latest => o.field < step::FIELDS,
+        Kind::Latest => o.field < bounds::FIELDS,
         Kind::Double => true,
         Kind::Deal => true,
         Kind::Gather => true,
@@ -322,7 +322,7 @@ fn kept(seen: Seen, o: Operator) -> Seen
     }
 }
 
-// The judge: the number, and, where it is 0, what is known with the operator kept.
+// The judge: the number, and what is then known, with the operator where it is kept.
 pub fn admit(queues: u8, variables: u8, seen: Seen, o: Operator) -> Admitted
     requires { ⌜ Ready o × (queues ≤ FLAGS) × (variables ≤ FLAGS) ⌝ }
     ensures { λ r. ⌜ Admits queues variables seen o r ⌝ }

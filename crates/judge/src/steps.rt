@@ -97,5 +97,3 @@ pub fn steps_flagged(
     }
     r
 }
-
-// The functions below take an operator whose count is in range and that is not empty: what `memory_number` answers 0 to is such a one.

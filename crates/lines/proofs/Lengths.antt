@@ -11,16 +11,16 @@ use lib.Signed.{mag}
 use Rattle.lists.specs.Lists.{chain}
 use Rattle.text.specs.Text.{word, natural}
 use Rattle.text.proofs.Digits.{length-natural, length-integer}
-use Rattle.lines.specs.Lines.{spaced, itemLine, variableLine, variableLines, refusalLine, answer, countsLine, LINE}
+use Rattle.lines.specs.Lines.{spaced, itemLine, variableLine, variableLines, refusalLine, answer, countsLine, SPACED, LINE}
 
 -- a number of at most five digits
 natural-short : (n : ℕ) → n < 100000 → length (natural n) ≤ 5
 natural-short n h = length-natural 4 n h
 
-spaced-short : (z : ℤ) → mag z < 2 ^ 31 → length (spaced z) ≤ 12
+spaced-short : (z : ℤ) → mag z < 2 ^ 31 → length (spaced z) ≤ SPACED
 spaced-short z h = omega (arith, length-integer z h)
 
-fields-short : (zs : List ℤ) → ((k : ℕ) → mag (getD zs k (pos 0)) < 2 ^ 31) → length (chain spaced zs) ≤ 12 * length zs
+fields-short : (zs : List ℤ) → ((k : ℕ) → mag (getD zs k (pos 0)) < 2 ^ 31) → length (chain spaced zs) ≤ SPACED * length zs
 fields-short [] h = omega arith
 fields-short (z ∷ zs) h =
     omega (arith, length-append (spaced z) (chain spaced zs), spaced-short z (h 0), fields-short zs (λ k. h (suc k)))

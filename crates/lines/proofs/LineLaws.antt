@@ -10,23 +10,21 @@ use lib.ListN.{length, getD, take, drop}
 use lib.Seq.{take-suc, drop-drop, length-take-le}
 use lib.IntN.{ℤ, pos}
 use Rattle.lists.specs.Lists.{chain}
-use Rattle.store.specs.Store.{FIELDS, firstOf}
+use Rattle.lists.proofs.Chains.{chain-append}
+use Rattle.bounds.specs.Bounds.{FIELDS}
+use Rattle.store.specs.Store.{firstOf}
 use Rattle.store.specs.Queues.{itemsOf}
 use Rattle.store.specs.declared.Item.{Item}
 use Rattle.lines.specs.Lines.{itemLine, queueLines, variableLine, variableLines}
 
 module _ {A B : Type 0} where
-  pub chain-append : (f : A → List B) (l m : List A) → chain f (l ++ m) ≡ chain f l ++ chain f m
-  chain-append f [] m = refl
-  chain-append f (x ∷ l) m = rw (chain-append f l m) (sym (append-assoc (f x) (chain f l) (chain f m)))
-
-  pub chain-snoc : (f : A → List B) (l : List A) (x : A) → chain f (l ++ (x ∷ [])) ≡ chain f l ++ f x
-  chain-snoc f l x = chain-append f l (x ∷ []) ∙ ap (λ (r : List B). chain f l ++ r) (append-nil (f x))
+  pub chain-one-more : (f : A → List B) (l : List A) (x : A) → chain f (l ++ (x ∷ [])) ≡ chain f l ++ f x
+  chain-one-more f l x = chain-append f l (x ∷ []) ∙ ap (λ (r : List B). chain f l ++ r) (append-nil (f x))
 
 -- one field more
 pub chain-take : {A B : Type 0} (f : A → List B) (l : List A) (d : A) (i : ℕ) → i < length l →
     chain f (take (i + 1) l) ≡ chain f (take i l) ++ f (getD l i d)
-chain-take f l d i h = ap (chain f) (ap (λ (k : ℕ). take k l) (add-one i) ∙ take-suc l i d h) ∙ chain-snoc f (take i l) (getD l i d)
+chain-take f l d i h = ap (chain f) (ap (λ (k : ℕ). take k l) (add-one i) ∙ take-suc l i d h) ∙ chain-one-more f (take i l) (getD l i d)
 
 -- one item more
 items-suc : (n : ℕ) (p : List ℤ) → itemsOf (suc n) p ≡ itemsOf n p ++ (firstOf (drop (FIELDS * n) p) ∷ [])
@@ -43,7 +41,7 @@ pub queue-more : (q i : ℕ) (p : List ℤ) →
 unfolding firstOf
 queue-more q i p =
     ap (λ (k : ℕ). queueLines q (itemsOf k p)) (add-one i) ∙ ap (queueLines q) (items-suc i p)
-    ∙ chain-snoc (λ (x : Item). itemLine q (x .f)) (itemsOf i p) (firstOf (drop (FIELDS * i) p))
+    ∙ chain-one-more (λ (x : Item). itemLine q (x .f)) (itemsOf i p) (firstOf (drop (FIELDS * i) p))
 
 -- one variable more
 variables-snoc : (v : ℕ) (zs : List ℤ) (z : ℤ) → variableLines v (zs ++ (z ∷ [])) ≡ variableLines v zs ++ variableLine (v + length zs) z

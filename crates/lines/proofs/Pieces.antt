@@ -5,18 +5,18 @@ use mathlib.Core.List.{List, [], _∷_, _++_}
 use Prim.Native.Nat.{ℕ, _+_, _*_, _≤_}
 use native.Mathlib.Omega.{arith}
 use lib.ListN.{length, set}
-use Rattle.text.specs.Text.{Puts}
+use Rattle.text.specs.Text.{PutsText}
 use Rattle.text.proofs.Putting.{puts-none, puts-then, puts-length, puts-byte}
 
 pub record Piece (n : ℕ) (xs s : List ℕ) (at : ℕ) (t : List ℕ) (end : ℕ) : Type 0 where
-  pub puts : Puts xs s at t end
+  pub puts : PutsText xs s at t end
   pub most : end ≤ at + n
   pub size : length t ≡ length s
 
-pub piece : (n : ℕ) {xs s t : List ℕ} {at end : ℕ} → length xs ≤ n → Puts xs s at t end → Piece n xs s at t end
+pub piece : (n : ℕ) {xs s t : List ℕ} {at end : ℕ} → length xs ≤ n → PutsText xs s at t end → Piece n xs s at t end
 piece n h p = record { puts = p; most = omega (arith, p .past); size = puts-length p }
 
-pub piece-of : {n : ℕ} {xs s t : List ℕ} {at end : ℕ} → Puts xs s at t end × (end ≤ at + n) → Piece n xs s at t end
+pub piece-of : {n : ℕ} {xs s t : List ℕ} {at end : ℕ} → PutsText xs s at t end × (end ≤ at + n) → Piece n xs s at t end
 piece-of p = record { puts = p .0; most = p .1; size = puts-length (p .0) }
 
 pub byte : (b : ℕ) (s : List ℕ) (at : ℕ) → Piece 1 (b ∷ []) s at (set s at b) (at + 1)
@@ -28,7 +28,7 @@ pub then : {m n : ℕ} {xs ys s t u : List ℕ} {at mid end : ℕ} → Piece m x
 then p q = record { puts = puts-then (p .puts) (q .puts); most = omega (arith, p .most, q .most); size = q .size ∙ p .size }
 
 -- the whole, within a bound
-pub whole : {m : ℕ} (n : ℕ) {xs s t : List ℕ} {at end : ℕ} → m ≤ n → Piece m xs s at t end → Puts xs s at t end × (end ≤ at + n)
+pub whole : {m : ℕ} (n : ℕ) {xs s t : List ℕ} {at end : ℕ} → m ≤ n → Piece m xs s at t end → PutsText xs s at t end × (end ≤ at + n)
 whole n h p = (p .puts, omega (arith, p .most))
 
 -- i pieces of at most n bytes each, and one more
@@ -44,6 +44,6 @@ pieces-more n i {s = s} {u = u} {at = at} {end = end} zs p q e =
     subst (λ (k : ℕ). Piece k zs s at u end) m (subst (λ (l : List ℕ). Piece (n * i + n) l s at u end) (sym e) r)
 
 pub pieces-all : (n i k : ℕ) {xs ys s t : List ℕ} {at end : ℕ} → i ≡ k → xs ≡ ys → Piece (n * i) xs s at t end →
-    Puts ys s at t end × (end ≤ at + n * k)
+    PutsText ys s at t end × (end ≤ at + n * k)
 pieces-all n i k {s = s} {t = t} {at = at} {end = end} e d p =
-    (subst (λ (l : List ℕ). Puts l s at t end) d (p .puts), subst (λ (j : ℕ). end ≤ at + n * j) e (p .most))
+    (subst (λ (l : List ℕ). PutsText l s at t end) d (p .puts), subst (λ (j : ℕ). end ≤ at + n * j) e (p .most))

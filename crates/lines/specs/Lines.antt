@@ -36,6 +36,9 @@ unfoldable pub countsLine : ℕ → ℕ → Bool → List ℕ
 countsLine fired skipped rest =
     word "fired " ++ (natural fired ++ (word " skipped " ++ (natural skipped ++ (word " rest " ++ (answer rest ++ word "\n")))))
 
--- no line is longer
+-- no number with its space is longer, and no line
+abbrev pub SPACED : ℕ
+SPACED = 12
+
 abbrev pub LINE : ℕ
 LINE = 68

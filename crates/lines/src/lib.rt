@@ -4,10 +4,11 @@ ghost use mathlib.Core.Path.{_≡_};
 ghost use mathlib.Core.List.{_++_};
 ghost use lib.ListN.{length, take};
 ghost use Rattle.lists.specs.Lists.{chain};
-ghost use Rattle.text.specs.Text.{word, Puts};
-ghost use Rattle.store.specs.Store.{FIELDS, ROOM, PART};
+ghost use Rattle.text.specs.Text.{word, PutsText};
+ghost use Rattle.bounds.specs.Bounds.{FIELDS, ROOM};
+ghost use Rattle.store.specs.Store.{PART};
 ghost use Rattle.store.specs.Queues.{itemsOf};
-ghost use Rattle.lines.specs.Lines.{spaced, itemLine, queueLines, variableLine, variableLines, refusalLine, answer, countsLine, LINE};
+ghost use Rattle.lines.specs.Lines.{spaced, itemLine, queueLines, variableLine, variableLines, refusalLine, answer, countsLine, SPACED, LINE};
 
 const NEWLINE: u8 = 10;
 
@@ -15,8 +16,8 @@ const SPACE: u8 = 32;
 
 // A space and a number.
 fn put_spaced(s: &mut [u8], at: usize, z: i32) -> usize
-    requires { ⌜ at + 12 ≤ length (now s) ⌝ }
-    ensures { λ r. ⌜ Puts (spaced z) (now (s .entry)) at (now (s .exit)) r × (r ≤ at + 12) ⌝ }
+    requires { ⌜ at + SPACED ≤ length (now s) ⌝ }
+    ensures { λ r. ⌜ PutsText (spaced z) (now (s .entry)) at (now (s .exit)) r × (r ≤ at + SPACED) ⌝ }
 {
     s[at] = SPACE;
     text::put_integer(s, at + 1, z)
@@ -24,8 +25,8 @@ fn put_spaced(s: &mut [u8], at: usize, z: i32) -> usize
 
 // A space and a number for each field.
 fn put_fields(s: &mut [u8], at: usize, fields: &[i32]) -> usize
-    requires { ⌜ at + 12 * length (now fields) ≤ length (now s) ⌝ }
-    ensures { λ r. ⌜ Puts (chain spaced (now (fields .entry))) (now (s .entry)) at (now (s .exit)) r × (r ≤ at + 12 * length (now (fields .entry))) ⌝ }
+    requires { ⌜ at + SPACED * length (now fields) ≤ length (now s) ⌝ }
+    ensures { λ r. ⌜ PutsText (chain spaced (now (fields .entry))) (now (s .entry)) at (now (s .exit)) r × (r ≤ at + SPACED * length (now (fields .entry))) ⌝ }
 {
     let mut end = at;
     let mut i = 0;
@@ -39,7 +40,7 @@ fn put_fields(s: &mut [u8], at: usize, fields: &[i32]) -> usize
 
 fn put_item(s: &mut [u8], at: usize, q: u8, fields: &[i32]) -> usize
     requires { ⌜ (at + LINE ≤ length (now s)) × (length (now fields) ≡ FIELDS) ⌝ }
-    ensures { λ r. ⌜ Puts (itemLine q (now (fields .entry))) (now (s .entry)) at (now (s .exit)) r × (r ≤ at + LINE) ⌝ }
+    ensures { λ r. ⌜ PutsText (itemLine q (now (fields .entry))) (now (s .entry)) at (now (s .exit)) r × (r ≤ at + LINE) ⌝ }
 {
     let a = text::put_word(s, at, b"q ");
     let b = text::put_natural(s, a, q as usize);
@@ -51,7 +52,7 @@ fn put_item(s: &mut [u8], at: usize, q: u8, fields: &[i32]) -> usize
 // A line for each of the first n items of queue q, oldest first.
 pub fn put_items(s: &mut [u8], at: usize, q: u8, n: usize, part: &[i32]) -> usize
     requires { ⌜ (at + LINE * n ≤ length (now s)) × (n ≤ ROOM) × (length (now part) ≡ PART) ⌝ }
-    ensures { λ r. ⌜ Puts (queueLines q (itemsOf n (now (part .entry)))) (now (s .entry)) at (now (s .exit)) r × (r ≤ at + LINE * n) ⌝ }
+    ensures { λ r. ⌜ PutsText (queueLines q (itemsOf n (now (part .entry)))) (now (s .entry)) at (now (s .exit)) r × (r ≤ at + LINE * n) ⌝ }
 {
     let mut end = at;
     let mut left = n;
@@ -67,7 +68,7 @@ pub fn put_items(s: &mut [u8], at: usize, q: u8, n: usize, part: &[i32]) -> usiz
 
 fn put_variable(s: &mut [u8], at: usize, v: usize, z: i32) -> usize
     requires { ⌜ at + LINE ≤ length (now s) ⌝ }
-    ensures { λ r. ⌜ Puts (variableLine v z) (now (s .entry)) at (now (s .exit)) r × (r ≤ at + LINE) ⌝ }
+    ensures { λ r. ⌜ PutsText (variableLine v z) (now (s .entry)) at (now (s .exit)) r × (r ≤ at + LINE) ⌝ }
 {
     let a = text::put_word(s, at, b"v ");
     let b = text::put_natural(s, a, v);
@@ -79,7 +80,7 @@ fn put_variable(s: &mut [u8], at: usize, v: usize, z: i32) -> usize
 // A line for each of the first n variables.
 pub fn put_variables(s: &mut [u8], at: usize, n: usize, vars: &[i32]) -> usize
     requires { ⌜ (at + LINE * n ≤ length (now s)) × (n ≤ length (now vars)) ⌝ }
-    ensures { λ r. ⌜ Puts (variableLines 0 (take n (now (vars .entry)))) (now (s .entry)) at (now (s .exit)) r × (r ≤ at + LINE * n) ⌝ }
+    ensures { λ r. ⌜ PutsText (variableLines 0 (take n (now (vars .entry)))) (now (s .entry)) at (now (s .exit)) r × (r ≤ at + LINE * n) ⌝ }
 {
     let mut end = at;
     let mut i = 0;
@@ -93,7 +94,7 @@ pub fn put_variables(s: &mut [u8], at: usize, n: usize, vars: &[i32]) -> usize
 
 pub fn put_refusal(s: &mut [u8], at: usize, number: u8, spot: usize) -> usize
     requires { ⌜ at + LINE ≤ length (now s) ⌝ }
-    ensures { λ r. ⌜ Puts (refusalLine number spot) (now (s .entry)) at (now (s .exit)) r × (r ≤ at + LINE) ⌝ }
+    ensures { λ r. ⌜ PutsText (refusalLine number spot) (now (s .entry)) at (now (s .exit)) r × (r ≤ at + LINE) ⌝ }
 {
     let a = text::put_word(s, at, b"refused ");
     let b = text::put_natural(s, a, number as usize);
@@ -106,7 +107,7 @@ pub fn put_refusal(s: &mut [u8], at: usize, number: u8, spot: usize) -> usize
 // The end of the counts' line.
 fn put_rest(s: &mut [u8], at: usize, rest: bool) -> usize
     requires { ⌜ at + 4 ≤ length (now s) ⌝ }
-    ensures { λ r. ⌜ Puts (answer rest ++ word "\n") (now (s .entry)) at (now (s .exit)) r × (r ≤ at + 4) ⌝ }
+    ensures { λ r. ⌜ PutsText (answer rest ++ word "\n") (now (s .entry)) at (now (s .exit)) r × (r ≤ at + 4) ⌝ }
 {
     if rest {
         return text::put_word(s, at, b"yes\n");
@@ -116,7 +117,7 @@ fn put_rest(s: &mut [u8], at: usize, rest: bool) -> usize
 
 pub fn put_counts(s: &mut [u8], at: usize, fired: usize, skipped: usize, rest: bool) -> usize
     requires { ⌜ at + LINE ≤ length (now s) ⌝ }
-    ensures { λ r. ⌜ Puts (countsLine fired skipped rest) (now (s .entry)) at (now (s .exit)) r × (r ≤ at + LINE) ⌝ }
+    ensures { λ r. ⌜ PutsText (countsLine fired skipped rest) (now (s .entry)) at (now (s .exit)) r × (r ≤ at + LINE) ⌝ }
 {
     let a = text::put_word(s, at, b"fired ");
     let b = text::put_natural(s, a, fired);

@@ -1,6 +1,6 @@
 -- Writes compose: one run of stores after another is the one of both, and a run from the start replaces the front.
 -- Assumes nothing.
-use mathlib.Core.Path.{_≡_, refl, _∙_}
+use mathlib.Core.Path.{_≡_, _∙_}
 use mathlib.Core.List.{List, [], _∷_, _++_}
 use Prim.Native.Nat.{ℕ, suc, _+_, _≤_}
 use native.Mathlib.Nat.{add-zero, zero-add}
@@ -11,9 +11,6 @@ use Rattle.lists.specs.Lists.{build}
 use Rattle.lists.proofs.Build.{build-length, build-snoc}
 
 module _ {A : Type 0} where
-  pub sets-nil : (l : List A) (i : ℕ) → sets l i [] ≡ l
-  sets-nil l i = refl
-
   pub sets-append : (a b l : List A) (i : ℕ) → sets (sets l i a) (i + length a) b ≡ sets l i (a ++ b)
   sets-append [] b l i = rw add-zero
   sets-append (x ∷ a) b l i = let e : i + suc (length a) ≡ suc i + length a = omega arith in rw e (sets-append a b (set l i x) (suc i))

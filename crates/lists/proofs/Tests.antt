@@ -3,7 +3,7 @@
 use mathlib.Core.Path.{_≡_, refl, ap, _∙_, sym}
 use mathlib.Core.Logic.{_⊎_, inl, inr, ⊎-elim}
 use mathlib.Core.Bool.{Bool, true, false, cond, _&&_, _||_, and-assoc, or-assoc, or-comm, or-false}
-use mathlib.Core.List.{List, [], _∷_, _++_, map}
+use mathlib.Core.List.{List, [], _∷_, _++_}
 use Prim.Native.Nat.{ℕ, zero, suc, _+_, _-_, _<_, _≤_}
 use native.Mathlib.Omega.{arith}
 use lib.Dec.{eqb}
@@ -149,14 +149,6 @@ module _ {A : Type 0} where
       fails false e = refl
 
 module _ {A B : Type 0} where
-  pub all-map : (f : B → Bool) (h : A → B) (l : List A) → all f (map h l) ≡ all (λ (x : A). f (h x)) l
-  all-map f h [] = refl
-  all-map f h (x ∷ l) = rw (all-map f h l)
-
-  pub any-map : (f : B → Bool) (h : A → B) (l : List A) → any f (map h l) ≡ any (λ (x : A). f (h x)) l
-  any-map f h [] = refl
-  any-map f h (x ∷ l) = rw (any-map f h l)
-
   pub all-chain : (f : B → Bool) (g : A → List B) (l : List A) → all f (chain g l) ≡ all (λ (x : A). all f (g x)) l
   all-chain f g [] = refl
   all-chain f g (x ∷ l) = rw (all-append f (g x) (chain g l), all-chain f g l)

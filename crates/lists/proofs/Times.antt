@@ -3,13 +3,13 @@
 use mathlib.Core.Path.{_≡_, refl, ap, _∙_, sym, subst}
 use mathlib.Core.Logic.{⊎-elim}
 use mathlib.Core.Bool.{Bool, true, false, not, _||_}
-use mathlib.Core.List.{List, [], _∷_, _++_, map}
+use mathlib.Core.List.{List, [], _∷_, _++_}
 use Prim.Native.Nat.{ℕ, zero, suc, _+_, _<_, _≤_}
 use native.Mathlib.Omega.{arith}
 use lib.Dec.{eqb, ltb}
 use lib.ListN.{length, getD}
 use borrow.Author.Tests.{eq-eqb, ne-eqb, le-ltb, not-true}
-use Rattle.lists.specs.Lists.{bit, build, member, fresh, chain, sum, times}
+use Rattle.lists.specs.Lists.{bit, build, member, fresh, chain, times}
 use Rattle.lists.proofs.Build.{same-or, never, build-suc}
 use Rattle.lists.proofs.Tests.{both, neither, or-cases, false-of}
 use Rattle.lists.proofs.Members.{member-below}
@@ -18,10 +18,6 @@ use Rattle.lists.proofs.Fresh.{fresh-fewer}
 pub times-append : (k : ℕ) (l m : List ℕ) → times k (l ++ m) ≡ times k l + times k m
 times-append k [] m = omega arith
 times-append k (x ∷ l) m = omega (arith, times-append k l m)
-
-pub times-chain : {A : Type 0} (k : ℕ) (f : A → List ℕ) (l : List A) → times k (chain f l) ≡ sum (map (λ (x : A). times k (f x)) l)
-times-chain k f [] = refl
-times-chain k f (x ∷ l) = rw (times-append k (f x) (chain f l), times-chain k f l)
 
 pub member-times : (k : ℕ) (l : List ℕ) → member k l ≡ false → times k l ≡ 0
 member-times k [] h = refl

@@ -15,7 +15,7 @@ use Rattle.operator.specs.Op.{Op, line, latest, double, deal, gather, reads, de
 use Rattle.operator.specs.Memory.{view}
 use Rattle.judge.specs.Judge.{known, seven}
 use Rattle.judge.proofs.JudgedLaws.{judged-seven}
-use Rattle.format.specs.Head.{QUEUES, VARIABLES}
+use Rattle.bounds.specs.Bounds.{VARIABLES, QUEUES}
 use Rattle.sheet.specs.declared.Sheet.{Sheet}
 use Rattle.sheet.specs.Answer.{accepted}
 use Rattle.sheet.specs.Sheet.{opAt, viewTo, viewSheet}
@@ -26,7 +26,7 @@ use Rattle.effect.specs.Able.{Able}
 use Rattle.effect.specs.Effect.{cursorGood}
 use Rattle.effect.proofs.AbleLaws.{sound, able-of}
 use Rattle.machine.specs.declared.State.{State}
-use Rattle.machine.specs.Working.{Stands, Fit}
+use Rattle.machine.specs.Working.{Stands, CanFire}
 use Rattle.machine.proofs.Good.{tested-of-good}
 use Rattle.machine.proofs.Sound.{SoundOp, sound-of-accepted}
 
@@ -51,9 +51,9 @@ able-of-accepted t h i l =
     (all-below (t .variables) VARIABLES (names o) (sound-of-accepted t h .variables) (sound-at t h i l .named))
     (sym (seven-sound o) ∙ judged-seven (t .queues) (t .variables) (known (viewTo t i)) o (f .judged i l))
 
-pub fit-of-stands : (t : Sheet) (st : State) (s : List ℤ) (q i : ℕ) → Stands t st s → i < t .count → member q (reads (view (opAt t i))) ≡ true →
-    Fit (opAt t i) q st s
-fit-of-stands t st s q i h l m =
+pub can-fire-of-stands : (t : Sheet) (st : State) (s : List ℤ) (q i : ℕ) → Stands t st s → i < t .count → member q (reads (view (opAt t i))) ≡ true →
+    CanFire (opAt t i) q st s
+can-fire-of-stands t st s q i h l m =
     let o = view (opAt t i) in
     let u = sound-at t (h .sheet) i l in
     let n = sound-of-accepted t (h .sheet) .queues in

@@ -1,6 +1,6 @@
 -- From numbers to queues: what each leaf leaves of the counts and the store are the counts and the store of the queues after it.
 -- Assumes nothing.
-use mathlib.Core.Path.{_≡_, refl, ap, _∙_, subst}
+use mathlib.Core.Path.{_≡_, refl, ap, _∙_}
 use mathlib.Core.Bool.{true}
 use mathlib.Core.List.{List, [], _∷_, _++_, map}
 use Prim.Native.Nat.{ℕ, zero, suc, _+_, _-_, _≤_, _<_}
@@ -13,13 +13,14 @@ use lib.IntN.{ℤ}
 use Rattle.lists.specs.Lists.{any}
 use Rattle.operator.specs.Op.{Abstract}
 use Rattle.store.specs.declared.Item.{Item}
-use Rattle.store.specs.Store.{FIELDS, ROOM, QUEUES, STORE, part, firstOf, pushAt, takeAt}
-use Rattle.store.specs.Queues.{storeOf, itemsOf, queuesOf, Fit, Wide, AllWide}
+use Rattle.store.specs.Store.{STORE, part, firstOf, pushAt, takeAt}
+use Rattle.bounds.specs.Bounds.{QUEUES, ROOM, FIELDS}
+use Rattle.store.specs.Queues.{storeOf, itemsOf, queuesOf, Fit}
 use Rattle.store.specs.Quiet.{quietFrom}
-use Rattle.store.proofs.StoreLaws.{push-store, take-store, first-store, counts-back, wide-at}
+use Rattle.store.proofs.StoreLaws.{push-store, take-store, counts-back}
 use Rattle.store.proofs.QuietLaws.{store-back}
 use Rattle.machine.specs.declared.State.{State}
-use Rattle.machine.specs.Machine.{Machine, full}
+use Rattle.machine.specs.Machine.{full}
 use Rattle.machine.specs.Numbers.{decode, good}
 use Rattle.machine.proofs.Good.{tested-of-good, count-at, decoded-at}
 
@@ -27,9 +28,6 @@ use Rattle.machine.proofs.Good.{tested-of-good, count-at, decoded-at}
 pub record Holds (cs : List ℕ) (s : List ℤ) (qs : List (List Item)) : Type 0 where
   pub counts : cs ≡ map length qs
   pub store : s ≡ storeOf qs
-
-pub holds-machine : (m : Machine) → Holds (map length (m .queues)) (storeOf (m .queues)) (m .queues)
-holds-machine m = record { counts = refl; store = refl }
 
 pub holds-of-quiet : (cs : List ℕ) (s : List ℤ) → length cs ≡ QUEUES → length s ≡ STORE → quietFrom s 0 cs ≡ true → Holds cs s (queuesOf s 0 cs)
 holds-of-quiet cs s n l h = record { counts = counts-back s 0 cs; store = store-back s cs (omega arith) h }
@@ -59,11 +57,6 @@ module _ (cs : List ℕ) (s : List ℤ) (qs : List (List Item)) (h : Holds cs s 
   module _ (q : ℕ) (x : Item) (xs : List Item) (e : getD qs q [] ≡ x ∷ xs) where
     pub count-of-cons : getD cs q 0 ≡ suc (length xs)
     count-of-cons = count-holds q ∙ ap length e
-
-    pub first-holds : length qs ≡ QUEUES → AllWide qs → q < QUEUES → firstOf (part s q) ≡ x
-    first-holds n w l =
-        let v : Wide (x ∷ xs) = subst (λ (ys : List Item). Wide ys) e (wide-at qs q w) in
-        ap (λ (u : List ℤ). firstOf (part u q)) (h .store) ∙ first-store qs q x xs (omega arith) e (v .0)
 
     -- ---- a take: one item fewer, and the others move down
 

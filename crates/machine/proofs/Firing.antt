@@ -14,8 +14,8 @@ use Rattle.operator.specs.Op.{Op, double, Abstract, reads}
 use Rattle.store.specs.declared.Item.{Item}
 use Rattle.effect.specs.Effect.{Result, effect, waits}
 use Rattle.effect.proofs.EffectLaws.{effect-puts-once}
-use Rattle.machine.specs.Machine.{Machine, Outcome, refuse, done, full, putAll, commit, fireFrom, fireOp, fireFirst, fireM, feedM}
-use Rattle.machine.specs.Machine.{isOutput, none, took, takeFrom, takeM}
+use Rattle.machine.specs.Machine.{Machine, Outcome, refuse, done, full, putAll, commit, fireFrom, fireOp, fireFirst, fireM, feedM, isOutput, none, took}
+use Rattle.machine.specs.Machine.{takeFrom, takeM}
 use Rattle.machine.proofs.Sound.{opIn, Sound}
 
 -- ---- outcomes are told apart

@@ -12,8 +12,8 @@ use Rattle.lists.proofs.Tests.{all-of-each}
 use Rattle.lists.proofs.Places.{same-at}
 use Rattle.operator.specs.Op.{Op, line, latest, double, deal, gather, Abstract}
 use Rattle.operator.proofs.ViewLaws.{Small}
-use Rattle.format.specs.Head.{VARIABLES}
-use Rattle.store.specs.Store.{QUEUES, STORE}
+use Rattle.bounds.specs.Bounds.{VARIABLES, QUEUES}
+use Rattle.store.specs.Store.{STORE}
 use Rattle.store.specs.Queues.{AllWide}
 use Rattle.store.proofs.StoreLaws.{zeros-store}
 use Rattle.effect.specs.Effect.{inWays, cursorGood}

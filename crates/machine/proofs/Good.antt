@@ -3,7 +3,7 @@
 use mathlib.Core.Path.{_≡_, refl, sym, ap, _∙_, subst}
 use mathlib.Core.Bool.{true}
 use mathlib.Core.List.{List, [], _∷_, map}
-use Prim.Native.Nat.{ℕ, zero, suc, _-_, _≤_, _<_}
+use Prim.Native.Nat.{ℕ, zero, suc, _≤_, _<_}
 use native.Mathlib.Nat.{zero-add}
 use native.Mathlib.Omega.{arith}
 use lib.Dec.{eqb}
@@ -15,14 +15,16 @@ use Rattle.lists.specs.Lists.{all}
 use Rattle.lists.proofs.Build.{order}
 use Rattle.lists.proofs.Tests.{both, both-of, all-from, all-from-of}
 use Rattle.operator.specs.Op.{Op, Abstract}
-use Rattle.format.specs.Head.{VARIABLES}
+use Rattle.bounds.specs.Bounds.{VARIABLES, ROOM, QUEUES}
 use Rattle.store.specs.declared.Item.{Item}
-use Rattle.store.specs.Store.{ROOM, QUEUES, STORE, part}
+use Rattle.store.specs.Store.{STORE, part}
 use Rattle.store.specs.Queues.{itemsOf, queuesOf, Fit}
-use Rattle.store.specs.Quiet.{isZero, quietFrom}
+use Rattle.store.specs.Quiet.{quietFrom}
+use Rattle.number.specs.Number.{isZero}
 use Rattle.store.proofs.QueueLaws.{length-items}
 use Rattle.store.proofs.StoreLaws.{length-store, counts-back, queue-at, queues-back}
-use Rattle.store.proofs.QuietLaws.{zero-of-test, store-back, quiet-fit, quiet-wide, store-passes}
+use Rattle.store.proofs.QuietLaws.{store-back, quiet-fit, quiet-wide, store-passes}
+use Rattle.number.proofs.Zero.{zero-of-test}
 use Rattle.effect.specs.Effect.{cursorGood}
 use Rattle.machine.specs.declared.State.{State}
 use Rattle.machine.specs.Machine.{Machine}

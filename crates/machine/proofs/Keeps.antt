@@ -18,12 +18,12 @@ use Rattle.lists.proofs.Times.{fresh-first}
 use Rattle.lists.proofs.Members.{not-below, all-below}
 use Rattle.operator.specs.Op.{Op, double, Abstract, names, cursors}
 use Rattle.store.specs.declared.Item.{Item}
-use Rattle.store.specs.Store.{FIELDS, ROOM}
+use Rattle.bounds.specs.Bounds.{ROOM, FIELDS}
 use Rattle.store.specs.Queues.{Fit, Wide, AllWide}
 use Rattle.store.proofs.StoreLaws.{fit-set, wide-set, wide-at, wide-append}
 use Rattle.effect.specs.Effect.{Result, effect, cursorGood}
-use Rattle.effect.proofs.EffectLaws.{effect-puts-below, effect-puts-apart, effect-vars-length, effect-item-wide, effect-frame}
-use Rattle.effect.proofs.EffectLaws.{effect-cursor-good, effect-other-cursor, cursors-named}
+use Rattle.effect.proofs.EffectLaws.{effect-puts-below, effect-puts-apart, effect-vars-length, effect-item-wide, effect-frame, effect-cursor-good}
+use Rattle.effect.proofs.EffectLaws.{effect-other-cursor, cursors-named}
 use Rattle.machine.specs.Machine.{Machine, Outcome, refuse, done, full, putAll, fireM, feedM, took, takeM, Ran, ranOn, runFrom}
 use Rattle.machine.specs.Numbers.{GoodM}
 use Rattle.machine.proofs.Firing.{fire-takes-one, feed-puts-one, take-removes-one}

@@ -11,3 +11,5 @@ pub mod ReaderLaws
 pub mod ReadyLaws
 pub mod OneOutcome
 pub mod AbleOf
+pub mod Found
+pub mod Asking

@@ -11,7 +11,7 @@ use borrow.Author.Tests.{ltb-true, leb-false, lt-leb, eq-eqb, not-true}
 use Rattle.lists.specs.Lists.{all, any, fresh}
 use Rattle.lists.proofs.Build.{never}
 use Rattle.lists.proofs.Tests.{both, neither, neither-of, or-right}
-use Rattle.store.specs.Store.{ROOM, QUEUES}
+use Rattle.bounds.specs.Bounds.{QUEUES, ROOM}
 use Rattle.store.specs.declared.Item.{Item}
 use Rattle.effect.specs.declared.Puts.{Puts}
 use Rattle.effect.specs.declared.Puts.the-variants.{Nowhere, One, Two}

@@ -9,7 +9,7 @@ use native.Mathlib.Nat.{sub-zero, sub-self}
 use native.Mathlib.Numerals.{add-one}
 use native.Mathlib.Omega.{arith}
 use lib.Dec.{eqb, ltb}
-use lib.ListN.{length, getD, set, drop, replicate, length-set, drop-of-length-le, List·getD-eq-default}
+use lib.ListN.{length, getD, set, drop, replicate, drop-of-length-le, List·getD-eq-default}
 use lib.Seq.{drop-cons}
 use borrow.Author.Tests.{lt-ltb}
 use Rattle.lists.specs.Lists.{build, any, member}
@@ -17,10 +17,10 @@ use Rattle.lists.proofs.Build.{order, never, build-length, build-getD, build-ex
 use Rattle.lists.proofs.Tests.{neither, none-of-each, false-of, cond-le, cond-ge}
 use Rattle.lists.proofs.Places.{getD-next}
 use Rattle.operator.specs.Op.{Op, Abstract, reads}
-use Rattle.format.specs.Head.{OPERATORS}
-use Rattle.store.specs.Store.{QUEUES}
+use Rattle.bounds.specs.Bounds.{OPERATORS, QUEUES}
 use Rattle.machine.specs.Machine.{Machine, refuse, fireOp, fireFirst, fireM, isOutput}
-use Rattle.machine.specs.Working.{readerFrom, readersOf, readersWith, fireFound}
+use Rattle.machine.specs.Readers.{readerFrom, readersOf, readersWith}
+use Rattle.machine.specs.Working.{fireFound}
 
 -- some operator reads q
 abbrev pub isRead : List Op → ℕ → Bool
@@ -146,10 +146,6 @@ readers-append r (q ∷ qs) ps i = readers-append (set r q i) qs ps i
 
 pub readers-more : (r : List ℕ) (j : ℕ) (g : ℕ → ℕ) (i : ℕ) → readersWith r (build (j + 1) g) i ≡ set (readersWith r (build j g) i) (g j) i
 readers-more r j g i = ap (λ (l : List ℕ). readersWith r l i) (build-snoc j g) ∙ readers-append r (build j g) (g j ∷ []) i
-
-pub readers-length : (r qs : List ℕ) (i : ℕ) → length (readersWith r qs i) ≡ length r
-readers-length r [] i = refl
-readers-length r (q ∷ qs) i = readers-length (set r q i) qs i ∙ length-set r q i
 
 -- the operators from the last to the first
 pub readers-step : (o : Op) (os : List Op) (i : ℕ) →

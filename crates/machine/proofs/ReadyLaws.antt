@@ -33,10 +33,6 @@ bits-below f q (suc n) = omega (arith, pow-suc 2 n, bits-below f (suc q) n, bit-
 pub bits-fit : (f : ℕ → Bool) (q n m : ℕ) → n ≤ m → bitsFrom f q n < 2 ^ m
 bits-fit f q n m h = lt-of-lt-of-le (bits-below f q n) (pow-mono h)
 
-pub ready-below : (a : Abstract) (m : Machine) → readySet a m < 2 ^ SET
-unfolding readySet
-ready-below a m = bits-below (readyAt a m) 0 SET
-
 -- bit k is the test at k
 pub bits-bit : (f : ℕ → Bool) (q n k : ℕ) → k < n → (bitsFrom f q n / 2 ^ k) % 2 ≡ bit (f (q + k))
 bits-bit f q zero k h = absurd (omega arith)

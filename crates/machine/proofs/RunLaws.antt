@@ -6,8 +6,8 @@ use mathlib.Core.List.{List, [], _∷_, _++_}
 use Prim.Native.Nat.{ℕ, _+_, _<_, _≤_}
 use native.Mathlib.Numerals.{add-one}
 use native.Mathlib.Omega.{arith}
-use lib.ListN.{length, getD, take, drop, drop-of-length-le}
-use lib.Seq.{drop-cons, take-suc}
+use lib.ListN.{length, getD, drop, drop-of-length-le}
+use lib.Seq.{drop-cons}
 use Rattle.lists.specs.Lists.{bit}
 use Rattle.operator.specs.Op.{Abstract}
 use Rattle.machine.specs.Machine.{Machine, Outcome, refuse, done, fireM, Ran, ranOn, runFrom, runM}
@@ -25,9 +25,6 @@ ran-skipped (done m) r = omega arith
 pub ran-counts : (o : Outcome) (r : Ran) → ranOn o r .fired + ranOn o r .skipped ≡ r .fired + r .skipped + 1
 ran-counts (refuse k) r = omega arith
 ran-counts (done m) r = omega arith
-
-pub run-bound : (o : Outcome) (r : Ran) (i : ℕ) → r .fired + r .skipped ≤ i → ranOn o r .fired + ranOn o r .skipped ≤ i + 1
-run-bound o r i h = omega (arith, ran-counts o r)
 
 -- a run of two lists is a run of the first and then of the second
 pub run-append : (a : Abstract) (qs rs : List ℕ) (r : Ran) → runFrom a (qs ++ rs) r ≡ runFrom a rs (runFrom a qs r)
@@ -81,8 +78,3 @@ run-next a l i r h = rw (add-one, drop-cons l i 0)
 pub run-end : (a : Abstract) (l : List ℕ) (i : ℕ) (r : Ran) → length l ≤ i → runFrom a (drop i l) r ≡ r
 unfolding runFrom
 run-end a l i r h = ap (λ (s : List ℕ). runFrom a s r) (drop-of-length-le l h)
-
--- the same by what was run: the first i entries
-pub run-take : (a : Abstract) (l : List ℕ) (i : ℕ) (r : Ran) → i < length l →
-    runFrom a (take (i + 1) l) r ≡ ranOn (fireM a (runFrom a (take i l) r .machine) (getD l i 0)) (runFrom a (take i l) r)
-run-take a l i r h = rw (add-one, take-suc l i 0) (run-snoc a (take i l) (getD l i 0) r)

@@ -14,7 +14,7 @@ use Rattle.operator.specs.Memory.{view}
 use Rattle.operator.proofs.ViewLaws.{Small, small-view}
 use Rattle.judge.specs.Judge.{known}
 use Rattle.judge.proofs.JudgedLaws.{judged-four, judged-five, judged-six, four-reads, four-defines, six-names}
-use Rattle.format.specs.Head.{QUEUES, VARIABLES}
+use Rattle.bounds.specs.Bounds.{VARIABLES, QUEUES}
 use Rattle.format.proofs.Heads.{ranges-of-good}
 use Rattle.sheet.specs.declared.Sheet.{Sheet}
 use Rattle.sheet.specs.Answer.{accepted}

@@ -3,7 +3,7 @@
 use mathlib.Core.Path.{_≡_, refl, sym, ap, ap₂, _∙_, subst}
 use mathlib.Core.Logic.{⊎-elim}
 use mathlib.Core.Bool.{Bool, true, false, cond}
-use mathlib.Core.List.{List}
+use mathlib.Core.List.{List, []}
 use Prim.Native.Nat.{ℕ, suc, _-_, _≤_, _<_}
 use native.Mathlib.Omega.{arith}
 use lib.ListN.{length, getD, set, drop, length-set}
@@ -17,18 +17,20 @@ use Rattle.sheet.specs.declared.Answer.{Answer}
 use Rattle.sheet.specs.declared.Answer.the-variants.{Done, Refused}
 use Rattle.sheet.specs.Answer.{paper}
 use Rattle.store.specs.declared.Item.{Item}
-use Rattle.store.specs.Store.{FIELDS, QUEUES, part, firstOf}
+use Rattle.store.specs.Store.{part, firstOf}
+use Rattle.bounds.specs.Bounds.{QUEUES, FIELDS}
 use Rattle.store.specs.Queues.{itemsOf}
 use Rattle.store.proofs.QuietLaws.{quiet-fit}
 use Rattle.effect.specs.declared.Effect.{Effect}
-use Rattle.effect.specs.Effect.{Result, effect, waits, putsOf, resultOf}
+use Rattle.effect.specs.Effect.{Result, sent, effect, waits, putsOf, resultOf}
 use Rattle.effect.proofs.EffectLaws.{effect-puts-below, effect-puts-apart}
 use Rattle.machine.specs.declared.Attempt.{Attempt}
 use Rattle.machine.specs.declared.State.{State}
 use Rattle.machine.specs.Machine.{Machine, Outcome, refuse, done, putAll, commit, fireFrom, fireOp}
 use Rattle.machine.specs.Numbers.{decode}
 use Rattle.machine.specs.Calls.{saved}
-use Rattle.machine.specs.Working.{Raw, raw, takeRaw, putsRaw, Room, Fit, Answers, numberIn, Attempts}
+use Rattle.machine.specs.Answers.{Answers}
+use Rattle.machine.specs.Working.{Raw, raw, takeRaw, putsRaw, Room, CanFire, refusalOf, triedOn, Attempts}
 use Rattle.machine.proofs.Good.{decoded-many}
 use Rattle.machine.proofs.Bridge.{Holds, holds-of-quiet, full-holds, take-holds, head-of-count, empty-of-count}
 use Rattle.machine.proofs.Putting.{belowAll, fullOf, room-to-put, puts-hold}
@@ -52,10 +54,15 @@ left o q st s = putsRaw (takeRaw (raw (st .counts) s) q) (does o q st s .puts) (
 
 -- ---- a refusal, by its number
 
-pub attempt-refused : (o : Operator) (q : ℕ) (st : State) (s : List ℤ) (r : Attempt) (k : ℕ) → r .number ≡ suc k →
-    fireOp (view o) (decode st s) q ≡ refuse (suc k) → Attempts o q st s r
-attempt-refused o q st s r k n e =
-    record { number = n ∙ sym (ap numberIn e); result = λ z. absurd (let y : suc k ≡ 0 = sym n ∙ z in omega arith) }
+pub attempt-refused : (o : Operator) (q : ℕ) (st : State) (s : List ℤ) (r : Attempt) (k : ℕ) (x : Item) →
+    (r .number ≡ k) × (resultOf (r .effect) ≡ sent [] x (st .vars)) → x ≡ firstOf (part s q) → fireOp (view o) (decode st s) q ≡ refuse k →
+    Attempts o q st s r
+attempt-refused o q st s r k x h f e =
+    record {
+      number = h .0 ∙ sym (ap refusalOf e);
+      result = h .1 ∙ ap (λ (y : Item). sent [] y (st .vars)) f
+          ∙ sym (ap (λ (y : Outcome). triedOn y (view o) (firstOf (part s q)) (st .vars)) e);
+    }
 
 pub fire-empty : (o : Op) (q : ℕ) (st : State) (s : List ℤ) → getD (st .counts) q 0 ≡ 0 → fireOp o (decode st s) q ≡ refuse 10
 unfolding fireFrom
@@ -72,7 +79,7 @@ module _ (o : Operator) (q : ℕ) (st : State) (s : List ℤ) (p : 0 < getD (st 
   pub fire-waits : waits (view o) q (st .vars) ≡ true → fireOp (view o) (decode st s) q ≡ refuse 11
   fire-waits w = fire-turn true w
 
-  module _ (w : waits (view o) q (st .vars) ≡ false) (n : length (st .counts) ≡ QUEUES) (f : Fit o q st s) where
+  module _ (w : waits (view o) q (st .vars) ≡ false) (n : length (st .counts) ≡ QUEUES) (f : CanFire o q st s) where
     fire-room : (b : Bool) → fullOf (st .counts) (does o q st s .puts) ≡ b → fireOp (view o) (decode st s) q ≡ cond b (refuse 12) (done (after o q st s))
     unfolding commit
     fire-room b h =
@@ -87,23 +94,25 @@ module _ (o : Operator) (q : ℕ) (st : State) (s : List ℤ) (p : 0 < getD (st 
       fire-full h = fire-room true (sym full-same ∙ h)
 
       pub attempt-done : fullOf (st .counts) (putsOf (e .puts)) ≡ false → Attempts o q st s (record { number = 0; effect = e })
-      attempt-done h = record { number = sym (ap numberIn (fire-room false (sym full-same ∙ h))); result = λ z. g }
+      attempt-done h =
+          let d = fire-room false (sym full-same ∙ h) in
+          record { number = sym (ap refusalOf d); result = g ∙ sym (ap (λ (y : Outcome). triedOn y (view o) (firstOf (part s q)) (st .vars)) d) }
 
 -- ---- no refusal: an item is there, the operator need not wait, and there is room
 
-not-zero : (r : Outcome) (k : ℕ) → numberIn r ≡ 0 → r ≡ refuse (suc k) → ⊥
-not-zero r k z e = let y : suc k ≡ 0 = sym (ap numberIn e) ∙ z in omega arith
+not-zero : (r : Outcome) (k : ℕ) → refusalOf r ≡ 0 → r ≡ refuse (suc k) → ⊥
+not-zero r k z e = let y : suc k ≡ 0 = sym (ap refusalOf e) ∙ z in omega arith
 
 pub record Clear (o : Operator) (q : ℕ) (st : State) (s : List ℤ) : Type 0 where
   pub some : 0 < getD (st .counts) q 0
   pub turn : waits (view o) q (st .vars) ≡ false
   pub room : fullOf (st .counts) (does o q st s .puts) ≡ false
 
-module _ (o : Operator) (q : ℕ) (st : State) (s : List ℤ) (n : length (st .counts) ≡ QUEUES) (f : Fit o q st s) (r : Attempt) (a : Attempts o q st s r) where
+module _ (o : Operator) (q : ℕ) (st : State) (s : List ℤ) (n : length (st .counts) ≡ QUEUES) (f : CanFire o q st s) (r : Attempt) (a : Attempts o q st s r) where
   pub refused-of-number : (r .number ≡ 0 → ⊥) → fireOp (view o) (decode st s) q ≡ refuse (r .number)
   refused-of-number h = go (fireOp (view o) (decode st s) q) (a .number)
     where
-      go : (x : Outcome) → r .number ≡ numberIn x → x ≡ refuse (r .number)
+      go : (x : Outcome) → r .number ≡ refusalOf x → x ≡ refuse (r .number)
       go (refuse k) e = ap refuse (sym e)
       go (done m) e = absurd (h e)
 
@@ -124,6 +133,12 @@ module _ (o : Operator) (q : ℕ) (st : State) (s : List ℤ) (n : length (st .c
           room = false-of (fullOf (st .counts) (does o q st s .puts)) (λ h. none 11 (fire-room o q st s p w n f true h));
         }
 
+    fires : fireOp (view o) (decode st s) q ≡ done (after o q st s)
+    fires = fire-room o q st s (clear .some) (clear .turn) n f false (clear .room)
+
+    acted : resultOf (r .effect) ≡ does o q st s
+    acted = a .result ∙ ap (λ (y : Outcome). triedOn y (view o) (firstOf (part s q)) (st .vars)) fires
+
     below : belowAll (does o q st s .puts) ≡ true
     below = effect-puts-below (view o) (firstOf (part s q)) (st .vars) QUEUES (f .cursor) (f .below)
 
@@ -135,7 +150,7 @@ module _ (o : Operator) (q : ℕ) (st : State) (s : List ℤ) (n : length (st .c
     pub room-left : (cs : List ℕ) (u : List ℤ) → raw cs u ≡ takeRaw (raw (st .counts) s) q → Room cs (putsOf (r .effect .puts))
     room-left cs u e =
         subst (λ (l : List ℕ). Room l (putsOf (r .effect .puts))) (sym (ap (λ (w : Raw). w .counts) e))
-        (subst (λ (x : Result). Room (set (st .counts) q (getD (st .counts) q 0 - 1)) (x .puts)) (sym (a .result z)) taking)
+        (subst (λ (x : Result). Room (set (st .counts) q (getD (st .counts) q 0 - 1)) (x .puts)) (sym acted) taking)
 
     left-holds : Holds (left o q st s .counts) (left o q st s .store) (after o q st s .queues)
     left-holds =
@@ -150,16 +165,14 @@ module _ (o : Operator) (q : ℕ) (st : State) (s : List ℤ) (n : length (st .c
         raw cs u ≡ putsRaw mid (putsOf (r .effect .puts)) (r .effect .item) →
         Answers (saved st s (fireOp (view o) (decode st s) q)) Done (record { counts = cs; vars = r .effect .vars }) u
     fired mid cs u e k =
-        let g : resultOf (r .effect) ≡ does o q st s = a .result z in
         let same : raw cs u ≡ left o q st s =
         k ∙ ap (λ (w : Raw). putsRaw w (putsOf (r .effect .puts)) (r .effect .item)) e
-        ∙ ap (λ (x : Result). putsRaw (takeRaw (raw (st .counts) s) q) (x .puts) (x .item)) g in
+        ∙ ap (λ (x : Result). putsRaw (takeRaw (raw (st .counts) s) q) (x .puts) (x .item)) acted in
         let h : Holds cs u (after o q st s .queues) = subst (λ (w : Raw). Holds (w .counts) (w .store) (after o q st s .queues)) (sym same) left-holds in
-        let b = fire-room o q st s (clear .some) (clear .turn) n f false (clear .room) in
-        subst (λ (x : Outcome). Answers (saved st s x) Done (record { counts = cs; vars = r .effect .vars }) u) (sym b)
+        subst (λ (x : Outcome). Answers (saved st s x) Done (record { counts = cs; vars = r .effect .vars }) u) (sym fires)
         (record {
           answered = refl;
-          stated = ap₂ (λ (l : List ℕ) (vs : List ℤ). record { counts = l; vars = vs }) (h .counts) (ap (λ (x : Result). x .vars) g);
+          stated = ap₂ (λ (l : List ℕ) (vs : List ℤ). record { counts = l; vars = vs }) (h .counts) (ap (λ (x : Result). x .vars) acted);
           stored = h .store;
         })
 

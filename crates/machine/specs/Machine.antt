@@ -1,13 +1,13 @@
 -- The machine of the report (Fig. 1): queues of items and variables; a firing, a feed, a take, and a run of firings.
 use Prim.Native.Nat.{ℕ, _+_}
-use mathlib.Core.Bool.{Bool, true, false, cond, not, _&&_}
+use mathlib.Core.Bool.{Bool, cond, not, _&&_}
 use mathlib.Core.List.{List, [], _∷_, _++_}
 use lib.Dec.{leb, ltb}
 use lib.ListN.{length, getD, set}
 use lib.IntN.{ℤ}
 use Rattle.lists.specs.Lists.{any, member}
 use Rattle.operator.specs.Op.{Op, Abstract, reads}
-use Rattle.store.specs.Store.{ROOM}
+use Rattle.bounds.specs.Bounds.{ROOM}
 use Rattle.store.specs.declared.Item.{Item}
 use Rattle.effect.specs.Effect.{Result, effect, waits}
 

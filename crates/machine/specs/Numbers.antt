@@ -8,10 +8,11 @@ use lib.ListN.{length, getD, drop}
 use lib.IntN.{ℤ, pos}
 use Rattle.lists.specs.Lists.{all}
 use Rattle.operator.specs.Op.{Op, Abstract}
-use Rattle.format.specs.Head.{VARIABLES}
-use Rattle.store.specs.Store.{STORE, QUEUES}
+use Rattle.bounds.specs.Bounds.{VARIABLES, QUEUES}
+use Rattle.store.specs.Store.{STORE}
 use Rattle.store.specs.Queues.{storeOf, queuesOf, Fit, AllWide}
-use Rattle.store.specs.Quiet.{isZero, quietFrom}
+use Rattle.store.specs.Quiet.{quietFrom}
+use Rattle.number.specs.Number.{isZero}
 use Rattle.effect.specs.Effect.{cursorGood}
 use Rattle.machine.specs.declared.State.{State}
 use Rattle.machine.specs.Machine.{Machine}

@@ -1,8 +1,6 @@
 -- The ready set: bit q is 1 exactly if firing q would be accepted.
 use Prim.Native.Nat.{ℕ, zero, suc, _+_, _*_}
-use mathlib.Core.Bool.{Bool, true, false, cond}
-use mathlib.Core.List.{List}
-use lib.Count.{ones, trailingZeros}
+use mathlib.Core.Bool.{Bool, true, false}
 use Rattle.lists.specs.Lists.{bit}
 use Rattle.operator.specs.Op.{Abstract}
 use Rattle.machine.specs.Machine.{Machine, Outcome, refuse, done, fireM}

@@ -1,33 +1,28 @@
-// The machine in numbers: the state, its test, and one firing from a queue. The runner's calls are made of these.
+// The machine in numbers: the state, and one firing from a queue. The runner's calls are made of these.
 use effect::Effect;
 use effect::Puts;
 use operator::Operator;
 use sheet::Answer;
-use sheet::Sheet;
 use store::Item;
 ghost use mathlib.Core.Path.{_≡_};
 ghost use mathlib.Core.Bool.{true};
-ghost use Prim.Native.Nat.{_<_, _≤_};
-ghost use lib.Dec.{eqb, ltb, leb};
-ghost use lib.ListN.{length, getD, drop};
+ghost use mathlib.Core.List.{[]};
+ghost use Prim.Native.Nat.{_<_};
+ghost use lib.Dec.{ltb, leb};
+ghost use lib.ListN.{length, getD};
 ghost use Rattle.lists.specs.Lists.{all, any};
-ghost use Rattle.operator.specs.Op.{reads};
-ghost use Rattle.operator.specs.Memory.{view, Ready};
-ghost use Rattle.sheet.specs.Answer.{paper, accepted};
-ghost use Rattle.sheet.specs.Sheet.{viewSheet};
-ghost use Rattle.sheet.specs.Check.{checkOf};
-ghost use Rattle.store.specs.Store.{STORE, QUEUES, ROOM};
-ghost use Rattle.effect.specs.Effect.{putsOf, cursorGood};
+ghost use Rattle.operator.specs.Memory.{view};
+ghost use Rattle.store.specs.Store.{STORE};
+ghost use Rattle.bounds.specs.Bounds.{QUEUES, ROOM};
+ghost use Rattle.effect.specs.Effect.{putsOf, resultOf, sent};
 ghost use Rattle.machine.specs.Machine.{fireOp};
-ghost use Rattle.machine.specs.Numbers.{good};
-ghost use Rattle.machine.specs.Calls.{standing};
-ghost use Rattle.machine.specs.Working.{readersOf, readersWith, stateWith, LentAnswers, raw, putRaw, takeRaw, putsRaw, Room, Fit, fireFound, Attempts};
+ghost use Rattle.machine.specs.Working.{raw, putRaw, takeRaw, putsRaw, stateWith, Room, CanFire, fireFound, lent, LentAnswers, Attempts};
 
 pub const QUEUES: usize = store::QUEUES;
 
-pub const VARIABLES: usize = 16;
+pub const VARIABLES: usize = effect::VARIABLES;
 
-pub const ROOM: u8 = 64;
+pub const ROOM: u8 = store::ROOM as u8;
 
 pub const STORE: usize = store::STORE;
 
@@ -37,18 +32,18 @@ pub struct State {
     pub vars: [i32; VARIABLES],
 }
 
-pub struct Fired {
+pub struct Called {
     pub answer: Answer,
     pub state: State,
 }
 
-pub struct Taken {
+pub struct TakenItem {
     pub answer: Answer,
     pub item: Item,
     pub state: State,
 }
 
-pub struct Ran {
+pub struct RunEnd {
     pub answer: Answer,
     pub fired: usize,
     pub skipped: usize,
@@ -68,10 +63,10 @@ pub struct ReadySet {
     pub lowest: u32,
 }
 
-pub fn no(number: u8, state: State) -> Fired
+pub fn no(number: u8, state: State) -> Called
     ensures { λ r. ⌜ (r .answer ≡ Answer.Refused number) × (r .state ≡ state) ⌝ }
 {
-    Fired {
+    Called {
         answer: Answer::Refused { number },
         state,
     }
@@ -142,8 +137,9 @@ pub fn take_one(counts: &mut [u8; QUEUES], store: &mut [i32], q: u8)
     counts[i] = n - 1;
 }
 
+// A refused attempt: nothing is put, and item and variables are as they were.
 fn none_of(number: u8, x: Item, vars: [i32; VARIABLES]) -> Attempt
-    ensures { λ r. ⌜ r .number ≡ number ⌝ }
+    ensures { λ r. ⌜ (r .number ≡ number) × (resultOf (r .effect) ≡ sent [] x vars) ⌝ }
 {
     Attempt {
         number,
@@ -157,7 +153,7 @@ fn none_of(number: u8, x: Item, vars: [i32; VARIABLES]) -> Attempt
 
 // Tries an operator from queue q: nothing is touched, so a refusal leaves all as it was.
 pub fn try_operator(o: Operator, q: u8, state: State, store: &[i32]) -> Attempt
-    requires { ⌜ Fit o q state (now store) ⌝ }
+    requires { ⌜ CanFire o q state (now store) ⌝ }
     ensures { λ r. ⌜ Attempts o q state (now (store .entry)) r ⌝ }
 {
     let i = q as usize;
@@ -189,8 +185,10 @@ fn fire_operator(
     vars: &mut [i32; VARIABLES],
     store: &mut [i32],
 ) -> Answer
-    requires { ⌜ (length (now counts) ≡ QUEUES) × Fit o q (stateWith (now counts) (now vars)) (now store) ⌝ }
-    ensures { λ r. ⌜ LentAnswers (λ m. fireOp (view o) m q) (now (counts .entry)) (now (vars .entry)) (now (store .entry)) r (now (counts .exit)) (now (vars .exit)) (now (store .exit)) ⌝ }
+    requires { ⌜ (length (now counts) ≡ QUEUES) × CanFire o q (stateWith (now counts) (now vars)) (now store) ⌝ }
+    ensures { λ r. ⌜ LentAnswers (λ m. fireOp (view o) m q)
+        (lent (now (counts .entry)) (now (vars .entry)) (now (store .entry))) r
+        (lent (now (counts .exit)) (now (vars .exit)) (now (store .exit))) ⌝ }
 {
     let i = q as usize;
     if counts[i] == 0 {
@@ -230,8 +228,10 @@ pub fn fire_found(
     vars: &mut [i32; VARIABLES],
     store: &mut [i32],
 ) -> Answer
-    requires { ⌜ (length (now counts) ≡ QUEUES) × (found ≡ true → Fit o q (stateWith (now counts) (now vars)) (now store)) ⌝ }
-    ensures { λ r. ⌜ LentAnswers (λ m. fireFound found (view o) m q) (now (counts .entry)) (now (vars .entry)) (now (store .entry)) r (now (counts .exit)) (now (vars .exit)) (now (store .exit)) ⌝ }
+    requires { ⌜ (length (now counts) ≡ QUEUES) × (found ≡ true → CanFire o q (stateWith (now counts) (now vars)) (now store)) ⌝ }
+    ensures { λ r. ⌜ LentAnswers (λ m. fireFound found (view o) m q)
+        (lent (now (counts .entry)) (now (vars .entry)) (now (store .entry))) r
+        (lent (now (counts .exit)) (now (vars .exit)) (now (store .exit))) ⌝ }
 {
     if !found {
         return Answer::Refused { number: 9 };

@@ -3,9 +3,7 @@ use mathlib.Core.Path.{_≡_, refl}
 use mathlib.Core.List.{List, [], _∷_, _++_}
 use Prim.Native.Nat.{ℕ, _+_, _*_, _/_, _%_, _<_, _≤_, _^_}
 use native.Mathlib.Omega.{arith}
-use lib.Dec.{lit<}
 use lib.ListN.{length, getD, take}
-use lib.Seq.{getD-take}
 use Rattle.number.specs.Number.{shortOf, shortBytes, bitsOf, bitsBytes}
 
 -- two bytes
@@ -17,18 +15,6 @@ pub short-of-bytes : (n : ℕ) → n < 65536 → (rest : List ℕ) → shortOf (
 unfolding shortOf shortBytes
 short-of-bytes n h rest = omega arith
 
-pub short-below : (s : List ℕ) → ((k : ℕ) → getD s k 0 < 256) → shortOf s < 65536
-unfolding shortOf
-short-below s h = omega (arith, h 0, h 1)
-
--- `shortOf` looks at two bytes only
-pub short-same : (s r : List ℕ) → ((k : ℕ) → k < 2 → getD s k 0 ≡ getD r k 0) → shortOf s ≡ shortOf r
-unfolding shortOf
-short-same s r h = rw (h 0 (lit< tt), h 1 (lit< tt))
-
-pub short-of-take : (s : List ℕ) (n : ℕ) → 2 ≤ n → shortOf (take n s) ≡ shortOf s
-short-of-take s n h = short-same (take n s) s (λ k l. getD-take n s k 0 (omega arith))
-
 pub bytes-of-short : (s : List ℕ) → 2 ≤ length s → ((k : ℕ) → getD s k 0 < 256) → shortBytes (shortOf s) ≡ take 2 s
 unfolding shortOf shortBytes
 bytes-of-short [] l h = absurd (omega arith)
@@ -39,11 +25,6 @@ bytes-of-short (a ∷ b ∷ s) l h =
     let e1 : (a + 256 * b) / 256 ≡ b = omega arith in
     rw (e0, e1)
 
--- four bytes
-pub length-bits-bytes : (n : ℕ) → length (bitsBytes n) ≡ 4
-unfolding bitsBytes
-length-bits-bytes n = refl
-
 pub bits-of-bytes : (n : ℕ) → n < 2 ^ 32 → (rest : List ℕ) → bitsOf (bitsBytes n ++ rest) ≡ n
 unfolding bitsOf bitsBytes
 bits-of-bytes n h rest = omega arith
@@ -51,14 +32,6 @@ bits-of-bytes n h rest = omega arith
 pub bits-below : (s : List ℕ) → ((k : ℕ) → getD s k 0 < 256) → bitsOf s < 2 ^ 32
 unfolding bitsOf
 bits-below s h = omega (arith, h 0, h 1, h 2, h 3)
-
--- `bitsOf` looks at four bytes only
-pub bits-same : (s r : List ℕ) → ((k : ℕ) → k < 4 → getD s k 0 ≡ getD r k 0) → bitsOf s ≡ bitsOf r
-unfolding bitsOf
-bits-same s r h = rw (h 0 (lit< tt), h 1 (lit< tt), h 2 (lit< tt), h 3 (lit< tt))
-
-pub bits-of-take : (s : List ℕ) (n : ℕ) → 4 ≤ n → bitsOf (take n s) ≡ bitsOf s
-bits-of-take s n h = bits-same (take n s) s (λ k l. getD-take n s k 0 (omega arith))
 
 pub bytes-of-bits : (s : List ℕ) → 4 ≤ length s → ((k : ℕ) → getD s k 0 < 256) → bitsBytes (bitsOf s) ≡ take 4 s
 unfolding bitsOf bitsBytes

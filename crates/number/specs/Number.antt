@@ -1,9 +1,9 @@
 -- Numbers as little-endian bytes, the wrapping sum on 32 bits, and the signed range test.
-use Prim.Native.Nat.{ℕ, _+_, _*_, _/_, _%_, _^_}
-use mathlib.Core.Bool.{Bool, _&&_}
+use Prim.Native.Nat.{ℕ, zero, suc, _+_, _*_, _/_, _%_, _^_}
+use mathlib.Core.Bool.{Bool, true, false, _&&_}
 use mathlib.Core.List.{List, [], _∷_}
 use lib.ListN.{getD}
-use lib.IntN.{ℤ}
+use lib.IntN.{ℤ, pos, negsuc}
 use lib.Signed.{leZ}
 use mir.Syntax.{w32}
 use mir.Val.{toZ, ofZ}
@@ -36,3 +36,8 @@ wrapAdd a b = toZ w32 ((ofZ w32 a + ofZ w32 b) % 2 ^ 32)
 -- low <= x <= high, signed
 abbrev pub between : ℤ → ℤ → ℤ → Bool
 between low x high = leZ low x && leZ x high
+
+abbrev pub isZero : ℤ → Bool
+isZero (pos zero) = true
+isZero (pos (suc n)) = false
+isZero (negsuc n) = false

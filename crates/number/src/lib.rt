@@ -5,7 +5,7 @@ ghost use lib.ListN.{length, drop};
 ghost use lib.Seq.{sets};
 ghost use mir.Syntax.{w32};
 ghost use mir.Val.{toZ, ofZ};
-ghost use Rattle.number.specs.Number.{shortOf, shortBytes, bitsOf, bitsBytes, intOf, intBytes, wrapAdd, between};
+ghost use Rattle.number.specs.Number.{shortOf, shortBytes, bitsOf, bitsBytes, intOf, intBytes, wrapAdd, between, isZero};
 
 fn wide(b: u8) -> u32
     ensures { λ r. ⌜ (r ≡ b) × (r < 256) ⌝ }
@@ -100,4 +100,10 @@ pub fn is_between(low: i32, x: i32, high: i32) -> bool
     ensures { λ r. ⌜ r ≡ between low x high ⌝ }
 {
     if low <= x { x <= high } else { false }
+}
+
+pub fn is_zero(z: i32) -> bool
+    ensures { λ r. ⌜ r ≡ isZero z ⌝ }
+{
+    z == 0
 }

@@ -1,115 +1,32 @@
-// The calls on a sheet, 1 to 8: the body's numbers taken out, the public function called, its answer printed.
+// The calls that leave the sheet as it is, 1 and 3 to 5: the body's numbers taken out, the public function called, its answer printed.
 // A body whose length is not the call's, or a number outside its bounds, prints `bad call` and changes nothing.
 use printer::put_answer;
 use printer::put_bad;
 use printer::put_byte;
 use printer::put_front;
-use printer::put_hex;
 use printer::put_next;
 use printer::put_text;
 use sheet::Answer;
 use sheet::Sheet;
-ghost use Prim.Native.Nat.{_<_};
+ghost use Prim.Native.Nat.{_*_, _<_};
 ghost use mathlib.Core.Path.{_≡_};
 ghost use lib.ListN.{length};
+ghost use Rattle.bounds.specs.Bounds.{QUEUES};
 
-// A sheet, and how many bytes of text wait.
-pub struct Sheeted {
-    pub sheet: Sheet,
-    pub used: usize,
-}
-
-fn bad_sheet(sheet: Sheet, out: &mut [u8], used: usize) -> Sheeted
-    requires { ⌜ used < length (now out) ⌝ }
-    ensures { λ r. ⌜ r .used < length (now (out .exit)) ⌝ }
-{
-    let used = put_bad(&mut *out, used);
-    Sheeted { sheet, used }
-}
+// The body of call 5: four bytes for each queue.
+const FED: usize = 4 * counts::QUEUES;
 
 // 1
-pub fn call_bench(body: &[u8], text: &mut [u8], out: &mut [u8], used: usize) -> usize
+fn call_bench(body: &[u8], text: &mut [u8], out: &mut [u8], used: usize) -> usize
     requires { ⌜ used < length (now out) ⌝ }
     ensures { λ r. ⌜ r < length (now (out .exit)) ⌝ }
 {
     let p = report::report(body, &mut *text);
-    put_front(&mut *out, used, &*text, p.length)
-}
-
-// The new sheet where the call was done, else the old one.
-fn kept(a: Answer, new: Sheet, old: Sheet, used: usize) -> Sheeted
-    ensures { λ r. ⌜ r .used ≡ used ⌝ }
-{
-    match a {
-        Answer::Done => Sheeted { sheet: new, used },
-        Answer::RefusedAt { number: _, spot: _ } => Sheeted { sheet: old, used },
-        Answer::Refused { number: _ } => Sheeted { sheet: old, used },
-    }
-}
-
-// A call that may leave another sheet: its answer, and the new sheet where it was done, else the old one.
-fn changed(a: Answer, new: Sheet, old: Sheet, word: &[u8], out: &mut [u8], used: usize) -> Sheeted
-    requires { ⌜ used < length (now out) ⌝ }
-    ensures { λ r. ⌜ r .used < length (now (out .exit)) ⌝ }
-{
-    let used = put_answer(&mut *out, used, a, word);
-    kept(a, new, old, used)
-}
-
-// 2
-pub fn call_read(body: &[u8], t: Sheet, out: &mut [u8], used: usize) -> Sheeted
-    requires { ⌜ used < length (now out) ⌝ }
-    ensures { λ r. ⌜ r .used < length (now (out .exit)) ⌝ }
-{
-    let r = codec::read(body);
-    let a = r.answer;
-    let new = r.sheet;
-    changed(a, new, t, b"read", &mut *out, used)
-}
-
-// 3
-pub fn call_write(body: &[u8], t: Sheet, out: &mut [u8], used: usize) -> usize
-    requires { ⌜ used < length (now out) ⌝ }
-    ensures { λ r. ⌜ r < length (now (out .exit)) ⌝ }
-{
-    if body.len() != 2 {
-        return put_bad(&mut *out, used);
-    }
-    let n = number::short_at(body, 0);
-    let mut lent = [170u8; 4096];
-    if lent.len() < n {
-        return put_bad(&mut *out, used);
-    }
-    write_lent(t, &mut lent[..n], &mut *out, used)
-}
-
-// Writes the sheet to a lent buffer, and prints the buffer as it is then.
-fn write_lent(t: Sheet, lent: &mut [u8], out: &mut [u8], used: usize) -> usize
-    requires { ⌜ used < length (now out) ⌝ }
-    ensures { λ r. ⌜ r < length (now (out .exit)) ⌝ }
-{
-    let w = codec::write(t, &mut *lent);
-    let a = w.answer;
-    put_written(&mut *out, used, a, &*lent)
-}
-
-fn put_written(out: &mut [u8], used: usize, a: Answer, s: &[u8]) -> usize
-    requires { ⌜ used < length (now out) ⌝ }
-    ensures { λ r. ⌜ r < length (now (out .exit)) ⌝ }
-{
-    match a {
-        Answer::Done => {
-            let at = put_text(&mut *out, used, b"bytes ");
-            let at = put_hex(&mut *out, at, s);
-            put_byte(&mut *out, at, b'\n')
-        }
-        Answer::RefusedAt { number: _, spot: _ } => put_answer(&mut *out, used, a, b""),
-        Answer::Refused { number: _ } => put_answer(&mut *out, used, a, b""),
-    }
+    put_front(&mut *out, used, &*text, p.size)
 }
 
 // 4
-pub fn call_calm(body: &[u8], t: Sheet, out: &mut [u8], used: usize) -> usize
+fn call_calm(body: &[u8], t: Sheet, out: &mut [u8], used: usize) -> usize
     requires { ⌜ used < length (now out) ⌝ }
     ensures { λ r. ⌜ r < length (now (out .exit)) ⌝ }
 {
@@ -118,15 +35,22 @@ pub fn call_calm(body: &[u8], t: Sheet, out: &mut [u8], used: usize) -> usize
     }
     let c = counts::calm(t);
     let a = c.answer;
-    if c.calm {
+    put_calm(&mut *out, used, a, c.calm)
+}
+
+fn put_calm(out: &mut [u8], used: usize, a: Answer, calm: bool) -> usize
+    requires { ⌜ used < length (now out) ⌝ }
+    ensures { λ r. ⌜ r < length (now (out .exit)) ⌝ }
+{
+    if calm {
         return put_answer(&mut *out, used, a, b"calm");
     }
     put_answer(&mut *out, used, a, b"not calm")
 }
 
-// The 24 numbers of a body that has them.
+// The numbers of a body that has one for each queue.
 fn numbers(body: &[u8]) -> [u64; counts::QUEUES]
-    requires { ⌜ length (now body) ≡ 96 ⌝ }
+    requires { ⌜ length (now body) ≡ 4 * QUEUES ⌝ }
 {
     let mut r = [0u64; counts::QUEUES];
     let mut q = 0;
@@ -139,22 +63,21 @@ fn numbers(body: &[u8]) -> [u64; counts::QUEUES]
 }
 
 // 5
-pub fn call_worst(body: &[u8], t: Sheet, out: &mut [u8], used: usize) -> usize
+fn call_worst(body: &[u8], t: Sheet, out: &mut [u8], used: usize) -> usize
     requires { ⌜ used < length (now out) ⌝ }
     ensures { λ r. ⌜ r < length (now (out .exit)) ⌝ }
 {
-    if body.len() != 96 {
+    if body.len() != FED {
         return put_bad(&mut *out, used);
     }
     let fed = numbers(body);
     let w = counts::worst(t, fed);
     let a = w.answer;
-    let ns = w.counts;
-    match a {
-        Answer::Done => put_counts(&mut *out, used, ns),
-        Answer::RefusedAt { number: _, spot: _ } => put_answer(&mut *out, used, a, b""),
-        Answer::Refused { number: _ } => put_answer(&mut *out, used, a, b""),
+    if !replay_held::is_done(a) {
+        return put_answer(&mut *out, used, a, b"");
     }
+    let ns = w.counts;
+    put_counts(&mut *out, used, ns)
 }
 
 fn put_counts(out: &mut [u8], used: usize, ns: [u64; counts::QUEUES]) -> usize
@@ -171,44 +94,23 @@ fn put_counts(out: &mut [u8], used: usize, ns: [u64; counts::QUEUES]) -> usize
     put_byte(&mut *out, at, b'\n')
 }
 
-// 6
-pub fn call_fuse(body: &[u8], t: Sheet, out: &mut [u8], used: usize) -> Sheeted
+// Which call each number is. One that is none of them is a bad call.
+pub fn ask_sheet(
+    call: u8,
+    body: &[u8],
+    t: Sheet,
+    text: &mut [u8],
+    out: &mut [u8],
+    used: usize,
+) -> usize
     requires { ⌜ used < length (now out) ⌝ }
-    ensures { λ r. ⌜ r .used < length (now (out .exit)) ⌝ }
+    ensures { λ r. ⌜ r < length (now (out .exit)) ⌝ }
 {
-    if body.len() != 1 {
-        return bad_sheet(t, &mut *out, used);
+    match call {
+        1 => call_bench(body, &mut *text, &mut *out, used),
+        3 => replay_bytes::call_write(body, t, &mut *out, used),
+        4 => call_calm(body, t, &mut *out, used),
+        5 => call_worst(body, t, &mut *out, used),
+        _ => put_bad(&mut *out, used),
     }
-    let r = rewriter::fuse(t, body[0]);
-    let a = r.answer;
-    let new = r.sheet;
-    changed(a, new, t, b"done", &mut *out, used)
-}
-
-// 7
-pub fn call_split(body: &[u8], t: Sheet, out: &mut [u8], used: usize) -> Sheeted
-    requires { ⌜ used < length (now out) ⌝ }
-    ensures { λ r. ⌜ r .used < length (now (out .exit)) ⌝ }
-{
-    if body.len() != 2 {
-        return bad_sheet(t, &mut *out, used);
-    }
-    let r = rewriter::split(t, body[0], body[1]);
-    let a = r.answer;
-    let new = r.sheet;
-    changed(a, new, t, b"done", &mut *out, used)
-}
-
-// 8
-pub fn call_reorder(body: &[u8], t: Sheet, out: &mut [u8], used: usize) -> Sheeted
-    requires { ⌜ used < length (now out) ⌝ }
-    ensures { λ r. ⌜ r .used < length (now (out .exit)) ⌝ }
-{
-    if body.len() != 1 {
-        return bad_sheet(t, &mut *out, used);
-    }
-    let r = rewriter::reorder(t, body[0]);
-    let a = r.answer;
-    let new = r.sheet;
-    changed(a, new, t, b"done", &mut *out, used)
 }

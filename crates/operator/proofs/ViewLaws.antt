@@ -3,10 +3,10 @@
 use mathlib.Core.Path.{_≡_, refl, ap, sym, _∙_}
 use mathlib.Core.Logic.{⊎-elim}
 use mathlib.Core.List.{List, [], _∷_}
-use mathlib.Core.Bool.{Bool, true, false, cond, _&&_, _||_, and-eq-true-iff}
+use mathlib.Core.Bool.{Bool, true, false, cond, _||_, and-eq-true-iff}
 use Prim.Native.Nat.{ℕ, _<_, _≤_}
 use native.Mathlib.Omega.{arith}
-use lib.Dec.{eqb, ltb, leb}
+use lib.Dec.{eqb, ltb}
 use lib.ListN.{length, getD}
 use borrow.Author.Tests.{leb-true, eqb-true, lt-ltb, le-ltb, le-leb, eq-eqb}
 use Rattle.lists.specs.Lists.{build, all}
@@ -21,8 +21,8 @@ use Rattle.operator.specs.declared.Kind.the-variants.{Empty, Line, Lates
 use Rattle.operator.specs.declared.Operator.{Operator}
 use Rattle.operator.specs.declared.Shape.{Shape}
 use Rattle.operator.specs.Op.{Op, line, latest, double, deal, gather, reads, defines}
-use Rattle.operator.specs.Memory.{PLACES, shapeOf, tidyAs, tidy, isEmpty, memoryNumber, vacant}
-use Rattle.operator.specs.Memory.{ways, stepsIn, viewAs, view, placed, memory, noOperator, Ready, Held}
+use Rattle.operator.specs.Memory.{PLACES, shapeOf, tidyAs, tidy, isEmpty, memoryNumber, vacant, ways, stepsIn, viewAs, view, placed, memory, noOperator}
+use Rattle.operator.specs.Memory.{Ready, Held}
 
 number-zero : (e t : Bool) → _≡_ {A = ℕ} (cond e 2 (cond t 0 1)) 0 → (t ≡ true) × (e ≡ false)
 number-zero true t h = absurd (omega arith)
@@ -176,13 +176,15 @@ number-tidy o e t = rw (e, tidy-of-parts (shapeOf (o .kind) (o .count)) o t)
 pub number-memory : (o : Op) → Small o → memoryNumber (memory o) ≡ 0
 number-memory (line p q ss) h =
     number-tidy (memory (line p q ss)) refl
-    (placed-tidy (shapeOf Line (length ss)) Line (length ss) 0 0 (p ∷ []) (q ∷ []) ss (h .0) (h .1) (omega arith) (omega arith) (omega arith) (λ _. refl) (λ _. refl))
+    (placed-tidy (shapeOf Line (length ss)) Line (length ss) 0 0 (p ∷ []) (q ∷ []) ss (h .0) (h .1) (omega arith) (omega arith) (omega arith)
+    (λ _. refl) (λ _. refl))
 number-memory (latest p v f) h =
     number-tidy (memory (latest p v f)) refl
     (placed-tidy (shapeOf Latest 0) Latest 0 v f (p ∷ []) [] [] (omega arith) (omega arith) (omega arith) (omega arith) (omega arith) never' never')
 number-memory (double p q r) h =
     number-tidy (memory (double p q r)) refl
-    (placed-tidy (shapeOf Double 0) Double 0 0 0 (p ∷ []) (q ∷ r ∷ []) [] (omega arith) (omega arith) (omega arith) (omega arith) (omega arith) (λ _. refl) (λ _. refl))
+    (placed-tidy (shapeOf Double 0) Double 0 0 0 (p ∷ []) (q ∷ r ∷ []) [] (omega arith) (omega arith) (omega arith) (omega arith)
+    (omega arith) (λ _. refl) (λ _. refl))
 number-memory (deal c p qs) h =
     number-tidy (memory (deal c p qs)) refl
     (placed-tidy (shapeOf Deal (length qs)) Deal (length qs) c 0 (p ∷ []) qs [] (h .0) (h .1) (omega arith) (omega arith) (omega arith) never' (λ _. refl))
@@ -209,7 +211,8 @@ small-view o h =
 abbrev operator : Kind → ℕ → ℕ → ℕ → List ℕ → List ℕ → List Step → Operator
 operator k n v f ps qs ss = record { kind = k; count = n; variable = v; field = f; ins = ps; outs = qs; steps = ss }
 
-operator-eq : {k k' : Kind} {n n' v v' f f' : ℕ} {ps ps' qs qs' : List ℕ} {ss ss' : List Step} → k ≡ k' → n ≡ n' → v ≡ v' → f ≡ f' → ps ≡ ps' → qs ≡ qs' → ss ≡ ss' →
+operator-eq : {k k' : Kind} {n n' v v' f f' : ℕ} {ps ps' qs qs' : List ℕ} {ss ss' : List Step} →
+    k ≡ k' → n ≡ n' → v ≡ v' → f ≡ f' → ps ≡ ps' → qs ≡ qs' → ss ≡ ss' →
     operator k n v f ps qs ss ≡ operator k' n' v' f' ps' qs' ss'
 operator-eq a b c d e g h = cc
 
@@ -217,8 +220,10 @@ operator-eq a b c d e g h = cc
 placed-back : (s : Shape) (o : Operator) → Held o → Tidy s o → (k : Kind) (n v f : ℕ) → o .kind ≡ k → n ≡ o .count → o .variable ≡ v → o .field ≡ f →
     placed k n v f (ways (s .ins) (o .ins)) (ways (s .outs) (o .outs)) (stepsIn (s .steps) (o .steps)) ≡ o
 placed-back s o h t k n v f a b c d =
-    operator-eq (sym a) b (sym c) (sym d) (pad-back PLACES (s .ins) 0 (o .ins) (h .ins-full) (t .ins)) (pad-back PLACES (s .outs) 0 (o .outs) (h .outs-full) (t .outs))
-    (pad-back PLACES (s .steps) noStep (o .steps) (h .steps-full) (λ j l u. blank-is (getD (o .steps) j noStep) (h .step-lows j) (h .step-highs j) (t .steps j l u)))
+    operator-eq (sym a) b (sym c) (sym d) (pad-back PLACES (s .ins) 0 (o .ins) (h .ins-full) (t .ins))
+    (pad-back PLACES (s .outs) 0 (o .outs) (h .outs-full) (t .outs))
+    (pad-back PLACES (s .steps) noStep (o .steps) (h .steps-full)
+    (λ j l u. blank-is (getD (o .steps) j noStep) (t .steps j l u)))
 
 memory-as : (k : Kind) (o : Operator) → o .kind ≡ k → isEmpty k ≡ false → Held o → Tidy (shapeOf k (o .count)) o → memory (viewAs k o) ≡ o
 memory-as Empty o e i h t = never' i

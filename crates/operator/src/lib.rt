@@ -9,6 +9,9 @@ ghost use Rattle.operator.specs.Memory.{shapeOf, zerosFrom, blanksFrom, 
 // A line's steps, or the ways of a deal or a gather, at the most.
 pub const PLACES: usize = 4;
 
+// The same as a count.
+const MOST: u8 = PLACES as u8;
+
 pub enum Kind {
     Empty,
     Line,
@@ -60,11 +63,11 @@ pub fn shape_of(k: Kind, n: u8) -> Shape
 {
     match k {
         Kind::Empty => shaped(0, 0, 0, 0, 0, false, false),
-        Kind::Line => shaped(1, 4, 1, 1, n, false, false),
+        Kind::Line => shaped(1, MOST, 1, 1, n, false, false),
         Kind::Latest => shaped(0, 0, 1, 0, 0, true, true),
         Kind::Double => shaped(0, 0, 1, 2, 0, false, false),
-        Kind::Deal => shaped(2, 4, 1, n, 0, true, false),
-        Kind::Gather => shaped(2, 4, n, 1, 0, true, false),
+        Kind::Deal => shaped(2, MOST, 1, n, 0, true, false),
+        Kind::Gather => shaped(2, MOST, n, 1, 0, true, false),
     }
 }
 

@@ -19,9 +19,10 @@ use Rattle.sheet.specs.Answer.{Paper, accepted, refused, isAccepted}
 use Rattle.sheet.specs.Sheet.{viewSheet, memorySheet}
 use Rattle.sheet.specs.Check.{checkOf}
 use Rattle.counts.specs.Calm.{isCalm}
-use Rattle.rewriter.specs.Rewrite.{Rewritten, refuse, rewritten, isLine, at, stepsOf, nextOf, toLine, touchesNone, writesSome, leaves, roomToSplit}
-use Rattle.rewriter.specs.Rewrite.{fused, fuse, parted, split, exchanged, reorder}
-use Rattle.rewriter.specs.Calls.{Rewriting, refusing, answering, ifCalm, fuseOf, splitOf, reorderOf}
+use Rattle.rewrite_rules.specs.Rewrite.{Remade, refuse, rewritten, isLine, at, stepsOf, nextOf, toLine, touchesNone, writesSome, leaves, roomToSplit, fused}
+use Rattle.rewrite_rules.specs.Rewrite.{fuse, parted, split, exchanged, reorder}
+use Rattle.rewrite_rules.specs.Answers.{Rewriting, notRewritten, answering}
+use Rattle.rewriter.specs.Calls.{ifCalm, fuseOf, splitOf, reorderOf}
 use Rattle.order.proofs.GoodSheets.{GoodSheet, Next}
 use Rattle.order.proofs.CalmLink.{good-of-accepted}
 use Rattle.order.proofs.GoodAccepted.{in-memory}
@@ -31,31 +32,35 @@ use Rattle.order.proofs.SplitLink.{split-next}
 use Rattle.order.proofs.FuseLink.{fuse-next}
 
 -- an accepted answer comes from an accepted, calm sheet and a rewriting that is not refused
-record Opened (p : Paper) (calm : Bool) (r : Rewritten) (c : Rewriting) : Type 0 where
+record Opened (p : Paper) (calm : Bool) (r : Remade) (c : Rewriting) : Type 0 where
   accepts : p ≡ accepted
   calms : calm ≡ true
   result : Abstract
   gives : r ≡ rewritten result
   sheet : c .sheet ≡ memorySheet result
 
-opened : (p : Paper) (calm : Bool) (r : Rewritten) →
-    cond (isAccepted p) (cond calm (answering r) (refusing (refused 13))) (refusing p) .answer ≡ accepted →
-    Opened p calm r (cond (isAccepted p) (cond calm (answering r) (refusing (refused 13))) (refusing p))
+abbrev stood : Paper → Bool → Paper
+stood p calm = cond (isAccepted p) (cond calm accepted (refused 13)) p
+
+abbrev answered : Paper → Bool → Remade → Rewriting
+answered p calm r = cond (isAccepted (stood p calm)) (answering r) (notRewritten (stood p calm))
+
+opened : (p : Paper) (calm : Bool) (r : Remade) → answered p calm r .answer ≡ accepted → Opened p calm r (answered p calm r)
 opened (some x) calm r h = never (ap isAccepted h)
 opened none false r h = never (ap isAccepted h)
 opened none true (refuse k) h = never (ap isAccepted h)
 opened none true (rewritten b) h = record { accepts = refl; calms = refl; result = b; gives = refl; sheet = refl }
 
 -- a test before a rewriting
-abbrev isRewritten : Rewritten → Bool
+abbrev isRewritten : Remade → Bool
 isRewritten (refuse k) = false
 isRewritten (rewritten b) = true
 
-abbrev resultOf : Abstract → Rewritten → Abstract
+abbrev resultOf : Abstract → Remade → Abstract
 resultOf d (refuse k) = d
 resultOf d (rewritten b) = b
 
-past : (t : Bool) (r : Rewritten) (k : ℕ) (b : Abstract) → cond t r (refuse k) ≡ rewritten b → (t ≡ true) × (r ≡ rewritten b)
+past : (t : Bool) (r : Remade) (k : ℕ) (b : Abstract) → cond t r (refuse k) ≡ rewritten b → (t ≡ true) × (r ≡ rewritten b)
 past true r k b h = (refl, h)
 past false r k b h = never (ap isRewritten h)
 
@@ -67,7 +72,7 @@ pub record Rewrote (t : Sheet) (b : Abstract) (u : Sheet) : Type 0 where
   pub next : Next (viewSheet t) b
   pub sheet : u ≡ memorySheet b
 
-rewrote : (t : Sheet) (r : Rewritten) (b : Abstract) (c : Rewriting) → c ≡ ifCalm t r → c .answer ≡ accepted →
+rewrote : (t : Sheet) (r : Remade) (b : Abstract) (c : Rewriting) → c ≡ ifCalm t r → c .answer ≡ accepted →
     (GoodSheet (viewSheet t) → (d : Abstract) → r ≡ rewritten d → (d ≡ b) × Next (viewSheet t) b) → Rewrote t b (c .sheet)
 rewrote t r b c e h f =
     let o = opened (checkOf t) (isCalm (viewSheet t)) r (sym (ap (λ (x : Rewriting). x .answer) e) ∙ h) in

@@ -36,7 +36,7 @@ use Rattle.theory.proofs.Scan.{Passes, Scan, at-end, next, scan-acc}
 use Rattle.theory.proofs.Final.{Calm}
 use Rattle.order.specs.Order.{calmSheet}
 use Rattle.order.proofs.Model.{kindAs, kindsAs}
-use Rattle.order.proofs.KindLaws.{bit-most, member-occ, fresh-occ, gives-occ, reads-occ, gives-member, takes-member, holds-member}
+use Rattle.order.proofs.KindLaws.{bit-most, member-of-times, fresh-once, gives-times, reads-times, gives-member, takes-member, holds-member}
 use Rattle.order.proofs.GoodSheets.{GoodOp, GoodSheet}
 
 -- one operator that the judge keeps passes the theory's scan
@@ -54,10 +54,10 @@ passes Q vs k o e s =
     let five = five-parts k o (judged-five Q vs k o e) in
     record {
       ways = ways-small o s;
-      known = λ q h. four-reads Q k o four q (member-occ q (reads o) (rw (reads-occ q o) at h)) .1;
-      unread = λ q. rw (reads-occ q o) (fresh-occ (k .used) (reads o) (five .1) q);
-      undefined = λ q. rw (gives-occ q o) (fresh-occ (k .defined) (defines o) (five .0) q);
-      low = λ q h. four-defines Q k o four q (member-occ q (defines o) (rw (gives-occ q o) at h));
+      known = λ q h. four-reads Q k o four q (member-of-times q (reads o) (rw (reads-times q o) at h)) .1;
+      unread = λ q. rw (reads-times q o) (fresh-once (k .used) (reads o) (five .1) q);
+      undefined = λ q. rw (gives-times q o) (fresh-once (k .defined) (defines o) (five .0) q);
+      low = λ q h. four-defines Q k o four q (member-of-times q (defines o) (rw (gives-times q o) at h));
     }
 
 after-scan : (Q : ℕ) (k : Known) (o : Op) (ops : List Kind) → Scan Q (after k o .defined) (after k o .used) ops →

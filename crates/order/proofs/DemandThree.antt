@@ -2,7 +2,7 @@
 -- Assumes nothing.
 use mathlib.Core.Path.{_≡_, sym, ap, _∙_, subst, fun-ext}
 use mathlib.Core.Bool.{true}
-use mathlib.Core.List.{List, [], map}
+use mathlib.Core.List.{List, map}
 use Prim.Native.Nat.{ℕ}
 use native.Mathlib.Omega.{arith}
 use lib.ListN.{getD}
@@ -26,8 +26,8 @@ use Rattle.theory.proofs.Orders.{fires}
 use Rattle.theory.proofs.Equations.{Kind, Whole}
 use Rattle.theory.proofs.Demand.{Counted}
 use Rattle.theory.proofs.Final.{begin}
-use Rattle.order.specs.Order.{calmSheet, fed, Taken, given, outputs}
-use Rattle.order.specs.Demand.{Side, begun, filled, ended, GoodSide, SameFeeds, variablesOf, Agreed, DemandThree}
+use Rattle.order.specs.Order.{calmSheet, fed, AllTaken, given, outputs}
+use Rattle.order.specs.Demand.{Side, begun, filled, ended, GoodFeeds, GoodSide, SameFeeds, variablesOf, Agreed, DemandThree}
 use Rattle.order.proofs.Model.{TItem, kindsAs, itemsAs, stateAs}
 use Rattle.order.proofs.Held.{held, run-held, ready-held, fresh-held}
 use Rattle.order.proofs.FeedLink.{fedAll, fresh-feeds, fed-begins, given-none}
@@ -52,8 +52,30 @@ endOf x feed = exec (fires (kindsIn x)) (x .firings) (begin feed)
 abbrev atEnd : Side → Machine
 atEnd x = runM (viewSheet (x .sheet)) (x .firings) (fedAll freshMachine (x .feeds)) .machine
 
+pub checked : (t : Sheet) → calmSheet t ≡ true → checkOf t ≡ accepted
+checked t c = accepted-of (checkOf t) (both (isAccepted (checkOf t)) (isCalm (viewSheet t)) c .0)
+
+-- after the feeds
+pub record Fed (x : Side) : Type 0 where
+  pub taken : AllTaken (x .sheet) (begun x) (x .feeds)
+  pub left : filled x ≡ held (fedAll freshMachine (x .feeds))
+  pub good : GoodM (viewSheet (x .sheet)) (fedAll freshMachine (x .feeds))
+
+pub side-fed : (x : Side) → calmSheet (x .sheet) ≡ true → GoodFeeds x → Fed x
+side-fed x c g =
+    let t = x .sheet in
+    let h = checked t c in
+    let start = fresh-held (x .state) (x .store) (g .fresh) in
+    let f = fresh-feeds t h (x .feeds) (g .inputs) (g .wide) (given-few t h (x .feeds) (g .inputs) (g .roomy)) in
+    record {
+      taken = subst (λ (k : Call). AllTaken t k (x .feeds)) (sym start) (f .taken);
+      left = ap (λ (k : Call). fed t k (x .feeds)) start ∙ f .left;
+      good = f .good;
+    }
+
+-- and after the run
 record Done (x : Side) : Type 0 where
-  pub fed : Taken (x .sheet) (begun x) (x .feeds)
+  pub fed : AllTaken (x .sheet) (begun x) (x .feeds)
   pub good : GoodM (viewSheet (x .sheet)) (atEnd x)
   pub left : ended x ≡ held (atEnd x)
   pub ready : readyOf (x .sheet) (ended x .state) (ended x .store) .answer ≡ accepted
@@ -62,35 +84,31 @@ record Done (x : Side) : Type 0 where
   pub W : ℕ → ℕ
   pub counts : Counted (kindsIn x) (feedOfSide x) W
 
-checked : (t : Sheet) → calmSheet t ≡ true → checkOf t ≡ accepted
-checked t c = accepted-of (checkOf t) (both (isAccepted (checkOf t)) (isCalm (viewSheet t)) c .0)
-
 side-done : (x : Side) → calmSheet (x .sheet) ≡ true → GoodSide x → Done x
 side-done x c g =
     let t = x .sheet in
     let a = viewSheet t in
     let h = checked t c in
     let s = sound-of-accepted t h in
+    let u = g .feeds in
     let m = fedAll freshMachine (x .feeds) in
-    let start = fresh-held (x .state) (x .store) (g .fresh) in
-    let f = fresh-feeds t h (x .feeds) (g .inputs) (g .wide) (given-few t h (x .feeds) (g .inputs) (g .roomy)) in
-    let full : filled x ≡ held m = ap (λ (k : Call). fed t k (x .feeds)) start ∙ f .left in
+    let f = side-fed x c u in
     let kept = run-keeps a s (x .firings) (record { fired = 0; skipped = 0; machine = m }) (f .good) in
     let end : ended x ≡ held (atEnd x) =
-    ap (λ (k : Call). runOf t (k .state) (k .store) (x .firings) .call) full ∙ run-held t h m (f .good) (x .firings) in
+    ap (λ (k : Call). runOf t (k .state) (k .store) (x .firings) .call) (f .left) ∙ run-held t h m (f .good) (x .firings) in
     let said = ap (λ (k : Call). readyOf t (k .state) (k .store)) end ∙ ready-held t h (atEnd x) kept in
     let shown = run-link a s (x .firings) m (f .good)
-    ∙ ap (exec (fires (kindsIn x)) (x .firings)) (fed-begins t h (x .feeds) (g .inputs)) in
+    ∙ ap (exec (fires (kindsIn x)) (x .firings)) (fed-begins t h (x .feeds) (u .inputs)) in
     record {
-      fed = subst (λ (k : Call). Taken t k (x .feeds)) (sym start) (f .taken);
+      fed = f .taken;
       good = kept;
       left = end;
       ready = ap (λ (r : ReadyCall). r .answer) said;
       state = shown;
       rest = subst (λ (u : State TItem ℤ). Rest (fires (kindsIn x)) u) shown
           (rest-link a s (atEnd x) kept (sym (ap (λ (r : ReadyCall). r .set) said) ∙ g .rest));
-      W = counted t h (x .feeds) (g .inputs) (g .roomy);
-      counts = counts-hold t h (x .feeds) (g .inputs) (g .roomy) (calm-link-of t c .acc);
+      W = counted t h (x .feeds) (u .inputs) (u .roomy);
+      counts = counts-hold t h (x .feeds) (u .inputs) (u .roomy) (calm-link-of t c .acc);
     }
 
 -- what a side leaves, as the theory sees it
@@ -113,8 +131,8 @@ agree x y c v gx gy same =
     let dy = side-done y (v .calm) gy in
     let feed = feedOfSide x in
     let e : feedOfSide y ≡ feed = fun-ext (λ q. ap itemsAs (sym (same q))) in
-    let r = Rattle.theory.proofs.Final.demand-3 (calm-link-of (x .sheet) c) (v .made) feed
-    (λ q l. ap itemsAs (given-none (x .sheet) (x .feeds) (gx .inputs) q l)) (dx .W) (dy .W) (dx .counts)
+    let r = Rattle.theory.proofs.Final.model-agrees (calm-link-of (x .sheet) c) (v .made) feed
+    (λ q l. ap itemsAs (given-none (x .sheet) (x .feeds) (gx .feeds .inputs) q l)) (dx .W) (dy .W) (dx .counts)
     (subst (λ (f : Whole). Counted (kindsIn y) f (dy .W)) e (dy .counts)) (x .firings) (y .firings) (dx .rest)
     (subst (λ (f : Whole). Rest (fires (kindsIn y)) (endOf y f)) e (dy .rest)) in
     record {

@@ -11,11 +11,12 @@ use native.Mathlib.Numerals.{add-one}
 use native.Mathlib.Omega.{arith}
 use lib.Dec.{eqb, ltb}
 use lib.ListN.{length, getD}
-use lib.IntN.{ℤ, pos, negsuc}
+use lib.IntN.{ℤ, pos}
 use borrow.Author.Tests.{eq-eqb, eqb-true, eqb-false, ltb-true}
 use Rattle.lists.specs.Lists.{member}
 use Rattle.lists.proofs.Tests.{both}
 use Rattle.lists.proofs.Places.{getD-any}
+use Rattle.lists.proofs.Members.{member-at}
 use Rattle.operator.specs.Op.{Op, line, latest, double, deal, gather, reads, names}
 use Rattle.store.specs.declared.Item.{Item}
 use Rattle.effect.specs.declared.Flow.{Flow}
@@ -24,16 +25,12 @@ use Rattle.effect.specs.Effect.{natOf, cursorAt, movedOn, effect, waits, inWays
 use Rattle.effect.proofs.Cursors.{in-ways-below}
 use Rattle.theory.proofs.Trace.{mark}
 use Rattle.theory.proofs.Steps.{upd, lineOp}
-use Rattle.theory.proofs.Deal.{onward, oneOf, one-of, dealOp, gatherOp}
+use Rattle.theory.proofs.Deal.{onward, dealOp, gatherOp}
 use Rattle.theory.proofs.Denote.{denote, latestOp, doubleOp}
 use Rattle.order.proofs.Model.{TItem, kindAs}
 use Rattle.order.proofs.LineLink.{varsAs, set-as, Left, Known, line-as}
 
 -- ---- the theory's words for cursors and their next place
-
-nat-as : (z : ℤ) → Rattle.theory.proofs.Deal.natOf z ≡ natOf z
-nat-as (pos n) = refl
-nat-as (negsuc n) = refl
 
 onward-as : (k c : ℕ) → c < k → onward k c ≡ (c + 1) % k
 onward-as k c h = go (eqb (suc c) k) refl
@@ -43,10 +40,10 @@ onward-as k c h = go (eqb (suc c) k) refl
     go false e = let n : suc c ≢ k = eqb-false (suc c) k e in rw add-one (sym (mod-eq-of-lt (omega arith)))
 
 moved-as : (c : ℕ) (vs : List ℤ) (ways : ℕ) → c < length vs → inWays (getD vs c (pos 0)) ways ≡ true →
-    upd c (pos (onward ways (Rattle.theory.proofs.Deal.natOf (varsAs vs c)))) (varsAs vs) ≡ varsAs (movedOn c ways vs)
+    upd c (pos (onward ways (natOf (varsAs vs c)))) (varsAs vs) ≡ varsAs (movedOn c ways vs)
 moved-as c vs ways l g =
     ap (λ (n : ℕ). upd c (pos n) (varsAs vs))
-    (ap (onward ways) (nat-as (getD vs c (pos 0))) ∙ onward-as ways (cursorAt c vs) (in-ways-below (getD vs c (pos 0)) ways g))
+    (onward-as ways (cursorAt c vs) (in-ways-below (getD vs c (pos 0)) ways g))
     ∙ set-as vs c (pos ((cursorAt c vs + 1) % ways)) l
 
 first-below : (vs : List ℤ) (c : ℕ) → Known vs (c ∷ []) → c < length vs
@@ -70,8 +67,7 @@ waits-as (double p r s) q vs m g = only-one q p m
 waits-as (deal c p qs) q vs m g = only-one q p m
 waits-as (gather c r ps) q vs m g =
     let l = in-ways-below (getD vs c (pos 0)) (length ps) g in
-    ap (λ (k : ℕ). eqb k q)
-    (ap (λ (n : ℕ). getD ps n (getD ps 0 0)) (nat-as (getD vs c (pos 0))) ∙ getD-any ps (cursorAt c vs) (getD ps 0 0) 0 l)
+    ap (λ (k : ℕ). eqb k q) (getD-any ps (cursorAt c vs) (getD ps 0 0) 0 l)
     ∙ sym (not-not (eqb (getD ps (cursorAt c vs) 0) q))
 
 -- ---- what it puts where
@@ -86,16 +82,16 @@ line-put k q b x = go (eqb k q) b refl
     go false false h = refl
 
 deal-put : (qs : List ℕ) (j k : ℕ) (x : TItem) → j < length qs →
-    cond (oneOf k qs) (mark (eqb k (getD qs j 0)) x) none ≡ mark (member k (getD qs j 0 ∷ [])) x
+    cond (member k qs) (mark (eqb k (getD qs j 0)) x) none ≡ mark (member k (getD qs j 0 ∷ [])) x
 deal-put qs j k x l = go (eqb k (getD qs j 0)) refl
   where
     past : (b : Bool) → _≡_ {A = Option TItem} (cond b none none) none
     past true = refl
     past false = refl
 
-    go : (e : Bool) → eqb k (getD qs j 0) ≡ e → cond (oneOf k qs) (mark e x) none ≡ mark (e || false) x
-    go true h = rw (eqb-true k (getD qs j 0) h, one-of qs j l)
-    go false h = past (oneOf k qs)
+    go : (e : Bool) → eqb k (getD qs j 0) ≡ e → cond (member k qs) (mark e x) none ≡ mark (e || false) x
+    go true h = rw (eqb-true k (getD qs j 0) h, member-at qs j l)
+    go false h = past (member k qs)
 
 pub puts-as : (o : Op) (x : Item) (vs : List ℤ) (k : ℕ) → Known vs (names o) → cursorGood o vs ≡ true →
     denote (kindAs o) .puts (x .f) (varsAs vs) k ≡ mark (member k (effect o x vs .puts)) (effect o x vs .item .f)
@@ -106,8 +102,7 @@ puts-as (line p q ss) x vs k n g =
 puts-as (latest p v f) x vs k n g = refl
 puts-as (double p q r) x vs k n g = ap (λ (b : Bool). mark (eqb k q || b) (x .f)) (sym (or-false (eqb k r)))
 puts-as (deal c p qs) x vs k n g =
-    ap (λ (j : ℕ). cond (oneOf k qs) (mark (eqb k (getD qs j 0)) (x .f)) none) (nat-as (getD vs c (pos 0)))
-    ∙ deal-put qs (cursorAt c vs) k (x .f) (in-ways-below (getD vs c (pos 0)) (length qs) g)
+    deal-put qs (cursorAt c vs) k (x .f) (in-ways-below (getD vs c (pos 0)) (length qs) g)
 puts-as (gather c q ps) x vs k n g = line-put k q true (x .f)
 
 -- ---- and its variables

@@ -17,8 +17,7 @@ use Rattle.sheet.specs.declared.Sheet.{Sheet}
 use Rattle.sheet.specs.Answer.{accepted}
 use Rattle.sheet.specs.Sheet.{viewSheet}
 use Rattle.sheet.specs.Check.{checkOf}
-use Rattle.format.specs.Head.{VARIABLES}
-use Rattle.store.specs.Store.{ROOM, QUEUES, FIELDS}
+use Rattle.bounds.specs.Bounds.{VARIABLES, FIELDS, ROOM, QUEUES}
 use Rattle.store.specs.declared.Item.{Item}
 use Rattle.machine.specs.Machine.{Machine}
 use Rattle.machine.specs.Numbers.{GoodM}
@@ -28,7 +27,7 @@ use Rattle.machine.proofs.Keeps.{feed-keeps}
 use Rattle.machine.proofs.FreshLaws.{freshMachine, fresh-good}
 use Rattle.theory.proofs.Equations.{nought}
 use Rattle.theory.proofs.Final.{begin}
-use Rattle.order.specs.Order.{Feed, fed, Taken, given, toInputs, wideFeeds}
+use Rattle.order.specs.Order.{Feed, fed, AllTaken, given, toInputs, wideFeeds}
 use Rattle.order.proofs.Model.{itemsAs, stateAs}
 use Rattle.order.proofs.Held.{held, fedTo, held-feed, feed-held}
 
@@ -100,7 +99,7 @@ roomy-next m x xs l r =
 
 -- every feed is accepted, and a good machine is left
 pub record FedAll (t : Sheet) (m : Machine) (xs : List Feed) : Type 0 where
-  pub taken : Taken t (held m) xs
+  pub taken : AllTaken t (held m) xs
   pub left : fed t (held m) xs ≡ held (fedAll m xs)
   pub good : GoodM (viewSheet t) (fedAll m xs)
 
@@ -119,7 +118,7 @@ feeds-held t h (x ∷ xs) m g i w r =
     (held-feed t h m g (x .queue) (x .item) l (n .0)) in
     let rest = feeds-held t h xs m' g' (e .1) (v .1) (n .1) in
     record {
-      taken = (ap (λ (c : Call). c .answer) one, subst (λ (c : Call). Taken t c xs) (sym one) (rest .taken));
+      taken = (ap (λ (c : Call). c .answer) one, subst (λ (c : Call). AllTaken t c xs) (sym one) (rest .taken));
       left = ap (λ (c : Call). fed t c xs) one ∙ rest .left;
       good = rest .good;
     }

@@ -17,7 +17,7 @@ use Rattle.lists.proofs.Members.{all-below}
 use Rattle.lists.proofs.Places.{getD-any}
 use Rattle.operator.specs.Op.{Op, double, Abstract, reads, names}
 use Rattle.store.specs.declared.Item.{Item}
-use Rattle.store.specs.Store.{ROOM, QUEUES}
+use Rattle.bounds.specs.Bounds.{QUEUES, ROOM}
 use Rattle.effect.specs.Effect.{effect, waits, cursorGood}
 use Rattle.effect.proofs.EffectLaws.{effect-puts-below, effect-puts-once}
 use Rattle.machine.specs.Machine.{Machine, Outcome, refuse, done, full, putAll, commit, fireFrom, fireOp, fireFirst, fireM}
@@ -168,9 +168,3 @@ module _ (a : Abstract) (sound : Sound a) (m : Machine) (g : GoodM a m) where
           rw (f .place-as, op-as (a .ops) (f .place) (f .within), f .fires-it)
           (fire-op (opIn a (f .place)) m (ready (f .place) (f .within)) q (f .reader))
       go (inr n) = rw (n .none-as, n .refused)
-
-  pub fire-link : (q : ℕ) (m′ : Machine) → fireM a m q ≡ done m′ → fires (kindsAs a) q (stateAs m) ≡ some (stateAs m′)
-  fire-link q m′ e = fire-as q ∙ ap outcomeAs e
-
-  pub refusal-link : (q k : ℕ) → fireM a m q ≡ refuse k → fires (kindsAs a) q (stateAs m) ≡ none
-  refusal-link q k e = fire-as q ∙ ap outcomeAs e

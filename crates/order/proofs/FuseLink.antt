@@ -1,52 +1,38 @@
 -- Fuse: the fused sheet is good again, and made as the theory makes it.
 -- Assumes nothing.
 use mathlib.Core.Path.{_≡_, refl, ap, ap₂, sym, _∙_, subst, subst₂}
-use mathlib.Core.Logic.{⊎-elim, _≢_}
 use mathlib.Core.List.{List, [], _∷_, _++_, map, map-append}
-use Prim.Native.Nat.{ℕ, suc, pred, _+_, _-_, _<_, _≤_}
+use Prim.Native.Nat.{ℕ, pred, _+_, _-_, _≤_}
 use native.Mathlib.Omega.{arith}
-use lib.ListN.{length, getD, set, take, drop, length-append, length-map}
-use borrow.Author.Tests.{lt-ltb, le-ltb}
+use lib.ListN.{length, set, take, drop, length-append, length-map}
 use Rattle.lists.specs.Lists.{all}
-use Rattle.lists.proofs.Build.{order}
 use Rattle.lists.proofs.Tests.{both-of, all-append}
 use Rattle.step.specs.Step.{stepVariable, stepPlaces}
 use Rattle.step.specs.declared.Step.{Step}
 use Rattle.operator.specs.Op.{Op, line, latest, double, deal, gather, Abstract}
 use Rattle.operator.specs.Memory.{PLACES}
 use Rattle.judge.specs.Judge.{seven}
-use Rattle.rewriter.specs.Rewrite.{inOf, outOf, stepsOf, at, nextOf, fallen, lowered, fused}
-use Rattle.theory.proofs.Equations.{Kind, Queues, Ways, ren}
-use Rattle.theory.proofs.Rewrites.{All, none-left, also, first, rest, all-join, Keeps, down}
-use Rattle.theory.proofs.FuseAcc.{p≢m, o≢m, keeps-pre, keeps-mid, keeps-post}
+use Rattle.rewrite_rules.specs.Rewrite.{inOf, outOf, stepsOf, at, nextOf, fallen, lowered, fused}
+use Rattle.theory.proofs.Equations.{Kind, ren}
+use Rattle.theory.proofs.Rewrites.{All, none-left, also, all-join, down}
 use Rattle.theory.proofs.Final.{Made, as-is, made}
 use Rattle.order.proofs.Model.{TStep, stepAs, kindAs}
 use Rattle.order.proofs.GoodSheets.{GoodOp, GoodSheet, Next, over}
 use Rattle.order.proofs.TwoLines.{TwoLines, set-drop}
-use Rattle.order.proofs.LinePair.{pair, pair-made, pair-calm, good-pre, good-first, good-mid, good-second, good-post}
+use Rattle.order.proofs.LinePair.{pair, pair-made, good-pre, good-first, good-mid, good-second, good-post}
 
--- away from the queue that goes, the two ways to lower a queue are one
-fallen-down : (m q : ℕ) → q ≢ m → fallen m q ≡ down m q
-fallen-down m q n =
-    ⊎-elim (λ (l : q < m). simp (lt-ltb q m l, le-ltb m q (omega arith)))
-    (λ (l : m ≤ q). let e : q - 1 ≡ pred q = omega arith in let k : m < q = omega arith in simp (le-ltb q m l, lt-ltb m q k, e))
-    (order q m)
+-- a queue is lowered as the theory lowers it
+lowered-down : (m : ℕ) (o : Op) → kindAs (lowered m o) ≡ ren (down m) (kindAs o)
+unfolding ren
+lowered-down m (line p q ss) = refl
+lowered-down m (latest p v f) = refl
+lowered-down m (double p q r) = refl
+lowered-down m (deal c p qs) = refl
+lowered-down m (gather c q ps) = refl
 
-falls-down : (m : ℕ) (qs : List ℕ) → ((j : ℕ) → j < length qs → getD qs j 0 ≢ m) → map (fallen m) qs ≡ map (down m) qs
-falls-down m [] h = refl
-falls-down m (q ∷ qs) h = ap₂ (λ (x : ℕ) (l : List ℕ). x ∷ l) (fallen-down m q (h 0 (omega arith))) (falls-down m qs (λ j l. h (suc j) (omega arith)))
-
-lowered-down : (m : ℕ) (o : Op) → Keeps m (kindAs o) → kindAs (lowered m o) ≡ ren (down m) (kindAs o)
-unfolding Queues ren
-lowered-down m (line p q ss) k = rw (fallen-down m p (k .1 .0), fallen-down m q (k .1 .1))
-lowered-down m (latest p v f) k = rw (fallen-down m p (k .1))
-lowered-down m (double p q r) k = rw (fallen-down m p (k .1 .0), fallen-down m q (k .1 .1), fallen-down m r (k .1 .2))
-lowered-down m (deal c p qs) k = rw (fallen-down m p (k .1 .0), falls-down m qs (k .1 .1))
-lowered-down m (gather c q ps) k = rw (fallen-down m q (k .1 .0), falls-down m ps (k .1 .1))
-
-all-lowered : (m : ℕ) (os : List Op) → All (Keeps m) (map kindAs os) → map kindAs (map (lowered m) os) ≡ map (ren (down m)) (map kindAs os)
-all-lowered m [] a = refl
-all-lowered m (o ∷ os) a = ap₂ (λ (x : Kind) (l : List Kind). x ∷ l) (lowered-down m o (first a)) (all-lowered m os (rest a))
+all-lowered : (m : ℕ) (os : List Op) → map kindAs (map (lowered m) os) ≡ map (ren (down m)) (map kindAs os)
+all-lowered m [] = refl
+all-lowered m (o ∷ os) = ap₂ (λ (x : Kind) (l : List Kind). x ∷ l) (lowered-down m o) (all-lowered m os)
 
 -- and an operator's places stay good
 good-lowered : (n m : ℕ) (o : Op) → GoodOp n o → GoodOp n (lowered m o)
@@ -89,24 +75,8 @@ module _ (a : Abstract) (p m o : ℕ) (ss ts : List Step) (pre mid post : List O
       omega arith
 
   module _ (g : GoodSheet (over a (pair a p m o ss ts pre mid post))) where
-    keeps-bare : All (Keeps m) (map kindAs bare)
-    unfolding Ways Queues
-    keeps-bare =
-        let I = a .inputs in
-        let Q = a .queues in
-        let s = map stepAs ss in
-        let t = map stepAs ts in
-        let x = map kindAs pre in
-        let y = map kindAs mid in
-        let z = map kindAs post in
-        let c = pair-calm a p m o ss ts pre mid post g .acc in
-        subst (All (Keeps m)) bare-kinds
-        (all-join (keeps-pre I Q p m o s t x y z c)
-        (also {x = Rattle.theory.proofs.Equations.line p o (s ++ t)} (tt, (p≢m I Q p m o s t x y z c, o≢m I Q p m o s t x y z c))
-        (all-join (keeps-mid I Q p m o s t x y z c) (keeps-post I Q p m o s t x y z c))))
-
     new-kinds : map (ren (down m)) bareKinds ≡ map kindAs (map (lowered m) bare)
-    new-kinds = ap (map (ren (down m))) bare-kinds ∙ sym (all-lowered m bare keeps-bare)
+    new-kinds = ap (map (ren (down m))) bare-kinds ∙ sym (all-lowered m bare)
 
     fused-made : {I Q v : ℕ} {ops : List Kind} → Made I Q v ops (a .queues) (a .variables) (map kindAs (pair a p m o ss ts pre mid post)) →
         Made I Q v ops (a .queues - 1) (a .variables) (map kindAs (map (lowered m) bare))

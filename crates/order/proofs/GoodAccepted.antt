@@ -15,10 +15,12 @@ use Rattle.lists.proofs.Build.{order, never}
 use Rattle.lists.proofs.Tests.{both-of, all-build-of}
 use Rattle.lists.proofs.Members.{all-of-members}
 use Rattle.lists.proofs.Bits.{bit-false, bit-or, bit-one}
+use Rattle.lists.proofs.Times.{times-member}
 use Rattle.operator.specs.Op.{Op, line, latest, double, deal, gather, Abstract, reads, defines, names, cursors}
 use Rattle.operator.proofs.ViewLaws.{Small}
 use Rattle.judge.specs.Judge.{Known, known, knownOf, judgeBy, judge, whole, four, five, six, variablesGood}
-use Rattle.format.specs.Head.{INPUTS, QUEUES, VARIABLES, OPERATORS, headGood}
+use Rattle.format.specs.Head.{headGood}
+use Rattle.bounds.specs.Bounds.{OPERATORS, VARIABLES, QUEUES, INPUTS}
 use Rattle.format.proofs.Heads.{HeadRanges}
 use Rattle.sheet.specs.Answer.{accepted}
 use Rattle.sheet.specs.Sheet.{viewSheet, memorySheet}
@@ -32,7 +34,7 @@ use Rattle.theory.proofs.Accept.{tot, tot-append, givesN, readsN, holdsN, Ord, 
 use Rattle.theory.proofs.FuseAcc.{ord-right}
 use Rattle.theory.proofs.Final.{Calm}
 use Rattle.order.proofs.Model.{kindAs}
-use Rattle.order.proofs.KindLaws.{occ-member, member-occ, occ-fresh, gives-occ, reads-occ, holds-member}
+use Rattle.order.proofs.KindLaws.{member-of-times, once-fresh, gives-times, reads-times, holds-member}
 use Rattle.order.proofs.GoodSheets.{GoodOp, GoodSheet}
 
 -- a test that some operator passes, and a count over all of them
@@ -77,16 +79,16 @@ held-named o v h = bit-one _ (holds-member o v ∙ h)
 module _ (I : ℕ) (os : List Op) where
   defined-most : (q : ℕ) → bit (knownOf I os .defined q) ≤ bit (ltb q I) + tot (givesN q) (map kindAs os)
   defined-most q =
-      let a = any-tot (λ (o : Op). member q (defines o)) (givesN q) (λ o h. rw (gives-occ q o) (occ-member q (defines o) h)) os in
+      let a = any-tot (λ (o : Op). member q (defines o)) (givesN q) (λ o h. rw (gives-times q o) (times-member q (defines o) h)) os in
       omega (arith, bit-or (ltb q I) (any (λ (o : Op). member q (defines o)) os))
 
   defined-of : (q : ℕ) → 1 ≤ bit (ltb q I) + tot (givesN q) (map kindAs os) → knownOf I os .defined q ≡ true
   defined-of q h =
       or-one (ltb q I) (any (λ (o : Op). member q (defines o)) os) (tot (givesN q) (map kindAs os))
-      (tot-any (λ (o : Op). member q (defines o)) (givesN q) (λ o l. member-occ q (defines o) (rw (gives-occ q o) at l)) os) h
+      (tot-any (λ (o : Op). member q (defines o)) (givesN q) (λ o l. member-of-times q (defines o) (rw (gives-times q o) at l)) os) h
 
   used-most : (q : ℕ) → bit (knownOf I os .used q) ≤ tot (readsN q) (map kindAs os)
-  used-most q = any-tot (λ (o : Op). member q (reads o)) (readsN q) (λ o h. rw (reads-occ q o) (occ-member q (reads o) h)) os
+  used-most q = any-tot (λ (o : Op). member q (reads o)) (readsN q) (λ o h. rw (reads-times q o) (times-member q (reads o) h)) os
 
   named-most : (v : ℕ) → bit (knownOf I os .named v) ≤ tot (holdsN v) (map kindAs os)
   named-most v = any-tot (λ (o : Op). member v (names o)) (holdsN v) (λ o h. held-named o v h) os
@@ -115,7 +117,7 @@ module _ (I Q vs : ℕ) (pre : List Op) (o : Op) (post : List Op) (calm : Calm I
 
   read-good : (p : ℕ) → member p (reads o) ≡ true → (ltb p Q && before .defined p) ≡ true
   read-good p m =
-      let r : 1 ≤ readsN p (kindAs o) = rw (reads-occ p o) (occ-member p (reads o) m) in
+      let r : 1 ≤ readsN p (kindAs o) = rw (reads-times p o) (times-member p (reads o) m) in
       ⊎-elim
       (λ (l : p < Q).
       both-of (ltb p Q) (before .defined p) (lt-ltb p Q l) (defined-of I pre p (omega (arith, calm .acc .defs p l, parts (givesN p), no-later p r))))
@@ -124,7 +126,7 @@ module _ (I Q vs : ℕ) (pre : List Op) (o : Op) (post : List Op) (calm : Calm I
 
   define-good : (q : ℕ) → member q (defines o) ≡ true → ltb q Q ≡ true
   define-good q m =
-      let r : 1 ≤ givesN q (kindAs o) = rw (gives-occ q o) (occ-member q (defines o) m) in
+      let r : 1 ≤ givesN q (kindAs o) = rw (gives-times q o) (times-member q (defines o) m) in
       ⊎-elim (λ (l : q < Q). lt-ltb q Q l) (λ (l : Q ≤ q). absurd (omega (arith, calm .acc .defs-out q l, parts (givesN q)))) (order q Q)
 
   passes-four : four Q before o ≡ true
@@ -137,8 +139,8 @@ module _ (I Q vs : ℕ) (pre : List Op) (o : Op) (post : List Op) (calm : Calm I
   unfolding five
   passes-five =
       both-of (fresh (before .defined) (defines o)) (fresh (before .used) (reads o))
-      (occ-fresh (before .defined) (defines o) (λ q. omega (arith, gives-occ q o, defined-most I pre q, defined-le q, parts (givesN q))))
-      (occ-fresh (before .used) (reads o) (λ q. omega (arith, reads-occ q o, used-most I pre q, calm .acc .reads q, parts (readsN q))))
+      (once-fresh (before .defined) (defines o) (λ q. omega (arith, gives-times q o, defined-most I pre q, defined-le q, parts (givesN q))))
+      (once-fresh (before .used) (reads o) (λ q. omega (arith, reads-times q o, used-most I pre q, calm .acc .reads q, parts (readsN q))))
 
   passes-six : six vs before o ≡ true
   unfolding six

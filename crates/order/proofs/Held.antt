@@ -1,4 +1,4 @@
--- The calls on the numbers of a good machine: standing, a feed with room, a run, the ready set, and a fresh start.
+-- The calls on the numbers of a good machine: standsOf, a feed with room, a run, the ready set, and a fresh start.
 -- Assumes nothing.
 use mathlib.Core.Path.{_≡_, refl, sym, ap, _∙_}
 use mathlib.Core.Bool.{Bool, true, false, cond}
@@ -14,13 +14,14 @@ use Rattle.sheet.specs.Answer.{Paper, accepted, refused, isAccepted}
 use Rattle.sheet.specs.Sheet.{viewSheet}
 use Rattle.sheet.specs.Check.{checkOf}
 use Rattle.sheet.proofs.AnswerLaws.{none-apart}
-use Rattle.store.specs.Store.{ROOM, STORE}
+use Rattle.store.specs.Store.{STORE}
+use Rattle.bounds.specs.Bounds.{ROOM}
 use Rattle.store.specs.declared.Item.{Item}
 use Rattle.machine.specs.declared.State.{State}
-use Rattle.machine.specs.Machine.{Machine, Outcome, refuse, done, full, feedM, runM}
+use Rattle.machine.specs.Machine.{Machine, Outcome, refuse, done, full, feedM, fireM, runM}
 use Rattle.machine.specs.Ready.{readySet}
 use Rattle.machine.specs.Numbers.{stateOf, storeIn, good, GoodM}
-use Rattle.machine.specs.Calls.{Call, standing, refusing, saved, savedRun, feedOf, RunCall, runOf, readyCall, readyOf, freshState, freshOf}
+use Rattle.machine.specs.Calls.{Call, standsOf, unchanged, saved, savedRun, feedOf, fireOf, RunCall, runOf, readyCall, readyOf, freshState, freshOf}
 use Rattle.machine.proofs.Good.{decode-of-encode, good-of-machine}
 use Rattle.machine.proofs.FreshLaws.{freshMachine, fresh-numbers}
 
@@ -37,7 +38,7 @@ picks : {A : Type 0} (p : Paper) (x y : A) → p ≡ accepted → cond (isAccept
 picks p x y e = rw e
 
 module _ (t : Sheet) (h : checkOf t ≡ accepted) (m : Machine) (g : GoodM (viewSheet t) m) where
-  pub held-stands : standing t (stateOf m) (storeIn m) ≡ accepted
+  pub held-stands : standsOf t (stateOf m) (storeIn m) ≡ accepted
   held-stands =
       picks (checkOf t) (cond (good (viewSheet t) (stateOf m) (storeIn m)) accepted (refused 8)) (checkOf t) h
       ∙ ap (λ (b : Bool). cond b accepted (refused 8)) (good-of-machine (viewSheet t) m g)
@@ -53,20 +54,29 @@ module _ (t : Sheet) (h : checkOf t ≡ accepted) (m : Machine) (g : GoodM (view
       feedOf t (stateOf m) (storeIn m) q x ≡ held (fedTo m q x)
   unfolding feedOf
   feed-held q x l r =
-      picks (standing t (stateOf m) (storeIn m)) _ _ held-stands
+      picks (standsOf t (stateOf m) (storeIn m)) _ _ held-stands
       ∙ ap (λ (n : Machine). saved (stateOf m) (storeIn m) (feedM (viewSheet t) n q x)) (decode-of-encode (viewSheet t) m g)
       ∙ ap (λ (o : Outcome). saved (stateOf m) (storeIn m) o) (held-feed q x l r)
 
-  pub run-held : (qs : List ℕ) → runOf t (stateOf m) (storeIn m) qs .call ≡ held (runM (viewSheet t) qs m .machine)
+  pub run-saved : (qs : List ℕ) → runOf t (stateOf m) (storeIn m) qs ≡ savedRun (runM (viewSheet t) qs m)
   unfolding runOf
-  run-held qs =
-      ap (λ (c : RunCall). c .call) (picks (standing t (stateOf m) (storeIn m)) _ _ held-stands)
-      ∙ ap (λ (n : Machine). savedRun (runM (viewSheet t) qs n) .call) (decode-of-encode (viewSheet t) m g)
+  run-saved qs =
+      picks (standsOf t (stateOf m) (storeIn m)) _ _ held-stands
+      ∙ ap (λ (n : Machine). savedRun (runM (viewSheet t) qs n)) (decode-of-encode (viewSheet t) m g)
+
+  pub run-held : (qs : List ℕ) → runOf t (stateOf m) (storeIn m) qs .call ≡ held (runM (viewSheet t) qs m .machine)
+  run-held qs = ap (λ (c : RunCall). c .call) (run-saved qs)
+
+  pub fire-saved : (q : ℕ) → fireOf t (stateOf m) (storeIn m) q ≡ saved (stateOf m) (storeIn m) (fireM (viewSheet t) m q)
+  unfolding fireOf
+  fire-saved q =
+      picks (standsOf t (stateOf m) (storeIn m)) _ _ held-stands
+      ∙ ap (λ (n : Machine). saved (stateOf m) (storeIn m) (fireM (viewSheet t) n q)) (decode-of-encode (viewSheet t) m g)
 
   pub ready-held : readyOf t (stateOf m) (storeIn m) ≡ readyCall accepted (readySet (viewSheet t) m)
   unfolding readyOf
   ready-held =
-      picks (standing t (stateOf m) (storeIn m)) _ _ held-stands
+      picks (standsOf t (stateOf m) (storeIn m)) _ _ held-stands
       ∙ ap (λ (n : Machine). readyCall accepted (readySet (viewSheet t) n)) (decode-of-encode (viewSheet t) m g)
 
 -- a fresh start that is accepted leaves the fresh machine
@@ -77,7 +87,7 @@ fresh-held st s e = go (eqb (length s) STORE) e
     zeros : Call
     zeros = record { answer = accepted; state = freshState; store = replicate STORE (pos 0) }
 
-    go : (b : Bool) → cond b zeros (refusing (refused 8) st s) .answer ≡ accepted →
-        cond b zeros (refusing (refused 8) st s) ≡ held freshMachine
+    go : (b : Bool) → cond b zeros (unchanged (refused 8) st s) .answer ≡ accepted →
+        cond b zeros (unchanged (refused 8) st s) ≡ held freshMachine
     go true h = ap (λ (z : List ℤ). record { answer = accepted; state = freshState; store = z }) (sym (fresh-numbers .1))
     go false h = absurd (none-apart 8 (sym h))

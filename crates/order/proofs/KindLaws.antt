@@ -1,103 +1,78 @@
 -- Operators and their translations: the theory counts what the judge lists.
 -- Assumes nothing.
 use mathlib.Core.Path.{_≡_, refl, ap, sym}
-use mathlib.Core.Logic.{⊎-elim}
 use mathlib.Core.Bool.{Bool, true, false, cond, not, _||_, or-false}
 use mathlib.Core.List.{List, [], _∷_, map}
 use Prim.Native.Nat.{ℕ, _+_, _≤_}
 use native.Mathlib.Omega.{arith}
 use lib.Dec.{eqb}
-use borrow.Author.Tests.{eq-eqb, ne-eqb, not-true}
-use Rattle.lists.specs.Lists.{member, fresh, chain, bit}
-use Rattle.lists.proofs.Build.{same-or, never}
-use Rattle.lists.proofs.Tests.{both, both-of, or-cases, neither, member-append}
+use borrow.Author.Tests.{eq-eqb}
+use Rattle.lists.specs.Lists.{member, fresh, chain, bit, times}
+use Rattle.lists.proofs.Tests.{both-of, member-append}
+use Rattle.lists.proofs.Times.{member-times, fresh-apart, fresh-times}
 use Rattle.step.specs.Step.{rowOf, stepNames}
 use Rattle.step.specs.declared.Func.{Func}
 use Rattle.step.specs.declared.Func.the-variants.{None, Keep, Add, Copy, Count, Stamp}
 use Rattle.step.specs.declared.Step.{Step}
 use Rattle.operator.specs.Op.{Op, line, latest, double, deal, gather, reads, defines, names}
 use Rattle.theory.proofs.Steps.{named, lineOp}
-use Rattle.theory.proofs.Deal.{oneOf, dealOp, gatherOp}
+use Rattle.theory.proofs.Deal.{dealOp, gatherOp}
 use Rattle.theory.proofs.Denote.{denote, takesFrom, latestOp, doubleOp}
 use Rattle.theory.proofs.Sheets.{gives, holds}
-use Rattle.theory.proofs.Accept.{tot, occ, givesN, readsN}
+use Rattle.theory.proofs.Accept.{givesN, readsN}
 use Rattle.order.proofs.Model.{stepBy, stepAs, kindAs}
 
 -- how often a queue stands in a list
-pub occ-member : (q : ℕ) (l : List ℕ) → member q l ≡ true → 1 ≤ occ q l
-unfolding tot
-occ-member q [] h = never h
-occ-member q (x ∷ l) h = ⊎-elim (λ e. rw e (omega arith)) (λ m. omega (arith, occ-member q l m)) (or-cases (eqb q x) (member q l) h)
-
-pub occ-none : (q : ℕ) (l : List ℕ) → member q l ≡ false → occ q l ≡ 0
-unfolding tot
-occ-none q [] h = refl
-occ-none q (x ∷ l) h = let p = neither (eqb q x) (member q l) h in rw (p .0, occ-none q l (p .1))
-
-pub member-occ : (q : ℕ) (l : List ℕ) → 1 ≤ occ q l → member q l ≡ true
-member-occ q l h = go (member q l) refl
+pub member-of-times : (q : ℕ) (l : List ℕ) → 1 ≤ times q l → member q l ≡ true
+member-of-times q l h = go (member q l) refl
   where
     go : (b : Bool) → member q l ≡ b → b ≡ true
     go true e = refl
-    go false e = absurd (omega (arith, occ-none q l e))
-
-pub one-of-member : (q : ℕ) (l : List ℕ) → oneOf q l ≡ member q l
-one-of-member q [] = refl
-one-of-member q (x ∷ l) = rw (one-of-member q l)
+    go false e = absurd (omega (arith, member-times q l e))
 
 pub bit-most : (b : Bool) → 0 + bit b ≤ 1
 bit-most true = omega arith
 bit-most false = omega arith
 
 -- fresh numbers are counted once, and not where they are known; and that is all
-pub fresh-occ : (d : ℕ → Bool) (l : List ℕ) → fresh d l ≡ true → (q : ℕ) → occ q l + bit (d q) ≤ 1
-unfolding tot
-fresh-occ d [] h q = bit-most (d q)
-fresh-occ d (x ∷ l) h q =
-    let p = both (not (d x)) (fresh (λ (y : ℕ). eqb y x || d y) l) h in
-    let ih = fresh-occ (λ (y : ℕ). eqb y x || d y) l (p .1) q in
-    ⊎-elim
-    (λ (e : q ≡ x).
-    let z : bit (d q) ≡ 0 = rw e (rw (not-true (d x) (p .0))) in
-    let w : bit (eqb q x || d q) ≡ 1 = rw (eq-eqb q x e) in
-    rw (eq-eqb q x e) (omega arith))
-    (λ (ne : q ≡ x → ⊥).
-    let w : bit (eqb q x || d q) ≡ bit (d q) = rw (ne-eqb q x ne) in
-    rw (ne-eqb q x ne) (omega arith))
-    (same-or q x)
+pub fresh-once : (d : ℕ → Bool) (l : List ℕ) → fresh d l ≡ true → (q : ℕ) → times q l + bit (d q) ≤ 1
+fresh-once d l h q = go (d q) refl
+  where
+    go : (b : Bool) → d q ≡ b → times q l + bit b ≤ 1
+    go true e = omega (arith, fresh-apart d l q h e)
+    go false e = omega (arith, fresh-times d l h q)
 
-pub occ-fresh : (d : ℕ → Bool) (l : List ℕ) → ((q : ℕ) → occ q l + bit (d q) ≤ 1) → fresh d l ≡ true
-unfolding tot
-occ-fresh d [] h = refl
-occ-fresh d (x ∷ l) h =
+pub once-fresh : (d : ℕ → Bool) (l : List ℕ) → ((q : ℕ) → times q l + bit (d q) ≤ 1) → fresh d l ≡ true
+once-fresh d [] h = refl
+once-fresh d (x ∷ l) h =
     both-of (not (d x)) (fresh (λ (y : ℕ). eqb y x || d y) l)
     (unknown (d x) (rw (eq-eqb x x refl) at (h x)))
-    (occ-fresh (λ (y : ℕ). eqb y x || d y) l (λ q. go q (eqb q x) (h q)))
+    (once-fresh (λ (y : ℕ). eqb y x || d y) l (λ q. go q (eqb q x) (h q)))
   where
-    unknown : (b : Bool) → bit true + occ x l + bit b ≤ 1 → not b ≡ true
+    unknown : (b : Bool) → bit true + times x l + bit b ≤ 1 → not b ≡ true
     unknown true g = absurd (omega arith)
     unknown false g = refl
 
-    go : (q : ℕ) (b : Bool) → bit b + occ q l + bit (d q) ≤ 1 → occ q l + bit (b || d q) ≤ 1
+    go : (q : ℕ) (b : Bool) → bit b + times q l + bit (d q) ≤ 1 → times q l + bit (b || d q) ≤ 1
     go q true g = omega arith
     go q false g = omega arith
 
 -- the queues that an operator defines and reads
-pub gives-occ : (q : ℕ) (o : Op) → givesN q (kindAs o) ≡ occ q (defines o)
-unfolding givesN tot
-gives-occ q (line p r ss) = omega arith
-gives-occ q (latest p v f) = refl
-gives-occ q (double p r s) = omega arith
-gives-occ q (deal c p qs) = refl
-gives-occ q (gather c r ps) = omega arith
+pub gives-times : (q : ℕ) (o : Op) → givesN q (kindAs o) ≡ times q (defines o)
+unfolding givesN
+gives-times q (line p r ss) = omega arith
+gives-times q (latest p v f) = refl
+gives-times q (double p r s) = omega arith
+gives-times q (deal c p qs) = refl
+gives-times q (gather c r ps) = omega arith
 
-pub reads-occ : (q : ℕ) (o : Op) → readsN q (kindAs o) ≡ occ q (reads o)
-unfolding readsN tot
-reads-occ q (line p r ss) = omega arith
-reads-occ q (latest p v f) = omega arith
-reads-occ q (double p r s) = omega arith
-reads-occ q (deal c p qs) = omega arith
-reads-occ q (gather c r ps) = refl
+pub reads-times : (q : ℕ) (o : Op) → readsN q (kindAs o) ≡ times q (reads o)
+unfolding readsN
+reads-times q (line p r ss) = omega arith
+reads-times q (latest p v f) = omega arith
+reads-times q (double p r s) = omega arith
+reads-times q (deal c p qs) = omega arith
+reads-times q (gather c r ps) = refl
 
 pub or-none : (b : Bool) → b ≡ (b || false)
 or-none b = sym (or-false b)
@@ -107,7 +82,7 @@ unfolding denote lineOp latestOp doubleOp dealOp gatherOp
 gives-member (line p r ss) q = or-none (eqb q r)
 gives-member (latest p v f) q = refl
 gives-member (double p r s) q = ap (λ (b : Bool). eqb q r || b) (or-none (eqb q s))
-gives-member (deal c p qs) q = one-of-member q qs
+gives-member (deal c p qs) q = refl
 gives-member (gather c r ps) q = or-none (eqb q r)
 
 pub takes-member : (o : Op) (q : ℕ) → takesFrom (kindAs o) q ≡ member q (reads o)
@@ -116,7 +91,7 @@ takes-member (line p r ss) q = or-none (eqb q p)
 takes-member (latest p v f) q = or-none (eqb q p)
 takes-member (double p r s) q = or-none (eqb q p)
 takes-member (deal c p qs) q = or-none (eqb q p)
-takes-member (gather c r ps) q = one-of-member q ps
+takes-member (gather c r ps) q = refl
 
 -- the variables that it names
 named-by : (f : Func) (s : Step) (k : ℕ) → named (stepBy f s) k ≡ member k (cond (rowOf f .variable) (s .variable ∷ []) [])

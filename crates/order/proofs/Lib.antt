@@ -23,6 +23,8 @@ pub mod OutputLink
 pub mod DemandThree
 pub mod Starts
 pub mod OneRest
+pub mod Composed
+pub mod Courses
 pub mod Readers
 pub mod Mass
 pub mod Reaches

@@ -8,7 +8,7 @@ use Rattle.operator.specs.Op.{Op, line, Abstract}
 use Rattle.theory.proofs.Equations.{Kind}
 use Rattle.theory.proofs.Rewrites.{All, first, rest, all-left, all-right}
 use Rattle.theory.proofs.FuseAcc.{old}
-use Rattle.theory.proofs.Final.{Made, Calm}
+use Rattle.theory.proofs.Final.{Made}
 use Rattle.order.proofs.Model.{stepAs, kindAs}
 use Rattle.order.proofs.GoodSheets.{GoodOp, GoodSheet, over}
 
@@ -30,9 +30,6 @@ module _ (a : Abstract) (p m o : ℕ) (ss ts : List Step) (pre mid post : List O
   pair-made {I} {Q} {v} {ops} x = subst (Made I Q v ops (a .queues) (a .variables)) pair-kinds x
 
   module _ (g : GoodSheet (over a pair)) where
-    pub pair-calm : Calm (a .inputs) (a .queues) (a .variables) oldKinds
-    pair-calm = subst (Calm (a .inputs) (a .queues) (a .variables)) pair-kinds (g .calm)
-
     pub good-pre : All (GoodOp (a .variables)) pre
     good-pre = all-left pre (line p m ss ∷ (mid ++ (line m o ts ∷ post))) (g .each)
 

@@ -17,7 +17,7 @@ use Rattle.lists.proofs.Tests.{both, all-member}
 use Rattle.lists.proofs.Times.{once-first}
 use Rattle.lists.proofs.Members.{some-member, no-member}
 use Rattle.store.specs.declared.Item.{Item}
-use Rattle.store.specs.Store.{ROOM}
+use Rattle.bounds.specs.Bounds.{ROOM}
 use Rattle.machine.specs.Machine.{full, putAll}
 use Rattle.machine.proofs.Keeps.{puts-other}
 use Rattle.theory.proofs.Model.{push, pop, fits, room}

@@ -11,7 +11,7 @@ use Rattle.lists.proofs.Tests.{both, all-append}
 use Rattle.step.specs.declared.Step.{Step}
 use Rattle.operator.specs.Op.{Op, line, Abstract}
 use Rattle.judge.specs.Judge.{seven}
-use Rattle.rewriter.specs.Rewrite.{inOf, outOf, stepsOf, at, nextOf, touchesNone, leaves, exchanged}
+use Rattle.rewrite_rules.specs.Rewrite.{inOf, outOf, stepsOf, at, nextOf, touchesNone, leaves, exchanged}
 use Rattle.theory.proofs.Equations.{Kind}
 use Rattle.theory.proofs.Rewrites.{All, also, all-join}
 use Rattle.theory.proofs.Final.{Made, as-is, reordered, made}

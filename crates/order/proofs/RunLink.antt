@@ -21,7 +21,7 @@ use Rattle.machine.specs.Ready.{SET, accepts, readySet}
 use Rattle.machine.specs.Numbers.{GoodM}
 use Rattle.machine.proofs.Sound.{opIn, Sound}
 use Rattle.machine.proofs.Keeps.{fire-keeps}
-use Rattle.machine.proofs.ReadyLaws.{ready-rest, rest-ready}
+use Rattle.machine.proofs.ReadyLaws.{ready-rest}
 use Rattle.theory.proofs.Runs.{Rest, exec, fired, orElse, tick}
 use Rattle.theory.proofs.Model.{State}
 use Rattle.theory.proofs.Orders.{fires}
@@ -76,13 +76,6 @@ module _ (a : Abstract) (sound : Sound a) where
 
   pub rest-link : (m : Machine) → GoodM a m → readySet a m ≡ 0 → Rest (fires (kindsAs a)) (stateAs m)
   rest-link m g h q = fire-as a sound m g q ∙ refused-as (fireM a m q) (ready-rest a m (double 0 0 0) h reads-below q)
-
-  not-some : (o : Outcome) → outcomeAs o ≡ none → accepts o ≡ false
-  not-some (refuse k) h = refl
-  not-some (done m) h = let z : _≡_ {A = ℕ} 0 1 = cc in absurd (omega arith)
-
-  pub rest-back : (m : Machine) → GoodM a m → Rest (fires (kindsAs a)) (stateAs m) → readySet a m ≡ 0
-  rest-back m g h = rest-ready a m (λ q. not-some (fireM a m q) (sym (fire-as a sound m g q) ∙ h q))
 
 -- ---- from the theory's state back to the machine
 

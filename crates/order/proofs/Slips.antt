@@ -2,6 +2,7 @@
 -- Assumes nothing.
 use mathlib.Core.Path.{_≡_, refl, ap, _∙_}
 use mathlib.Core.Bool.{true, false}
+use mathlib.Core.List.{[]}
 use lib.ListN.{replicate}
 use lib.IntN.{pos}
 use Rattle.lists.specs.Lists.{all}
@@ -26,13 +27,14 @@ use Rattle.machine.specs.Ready.{readySet}
 use Rattle.machine.specs.Numbers.{good}
 use Rattle.machine.specs.Calls.{Call, freshOf, fireOf, runOf, readyOf}
 use Rattle.machine.proofs.FreshLaws.{freshMachine}
-use Rattle.rewriter.specs.Rewrite.{split, reorder}
+use Rattle.rewrite_rules.specs.Rewrite.{split, reorder}
 use Rattle.rewriter.specs.Calls.{splitOf, reorderOf}
 use Rattle.order.specs.Order.{fed, toInputs, wideFeeds, roomy}
+use Rattle.order.specs.Samples.{holding}
 use Rattle.order.specs.Instance.{sheetA, stale}
-use Rattle.order.specs.Slips.{Slip, slips, shows, keepSplit, stuck, counting, countSplit, copying, copyingReordered, dropping, restless}
-use Rattle.order.specs.Slips.{feedsIn, filledBy, FedStart, keepRow, countRow, copyRow, restlessRow}
-use Rattle.order.proofs.Held.{fresh-held}
+use Rattle.order.specs.Slips.{Slip, slips, shows, keepSplit, stuck, counting, countSplit, copying, copyingReordered, dropping, restless, feedsIn}
+use Rattle.order.specs.Slips.{filledBy, FedStart, keepRow, countRow, copyRow, restlessRow}
+use Rattle.order.proofs.Held.{held, fresh-held}
 use Rattle.order.proofs.FeedLink.{fedAll, fresh-feeds}
 use Rattle.order.proofs.WorstLink.{given-few}
 
@@ -45,13 +47,13 @@ slips-show = refl
 -- the rows but the one with a full output start where feeds lead
 fed-start : (t : Sheet) (x : Slip) → checkOf t ≡ accepted → toInputs t (feedsIn 0 (x .before)) ≡ true →
     wideFeeds (feedsIn 0 (x .before)) ≡ true → roomy t (feedsIn 0 (x .before)) ≡ true →
-    fedAll freshMachine (feedsIn 0 (x .before)) ≡ Rattle.order.specs.Slips.held (x .before) →
-    filledBy t x ≡ Rattle.order.proofs.Held.held (Rattle.order.specs.Slips.held (x .before))
+    fedAll freshMachine (feedsIn 0 (x .before)) ≡ holding (x .before) [] →
+    filledBy t x ≡ held (holding (x .before) [])
 unfolding freshOf
 fed-start t x h i w r e =
     ap (λ (c : Call). fed t c (feedsIn 0 (x .before))) (fresh-held stale (replicate STORE (pos 7)) refl)
     ∙ fresh-feeds t h (feedsIn 0 (x .before)) i w (given-few t h (feedsIn 0 (x .before)) i r) .left
-    ∙ ap Rattle.order.proofs.Held.held e
+    ∙ ap held e
 
 pub rows-are-fed : FedStart keepRow × FedStart countRow × FedStart copyRow × FedStart restlessRow
 unfolding stepNames stepVariable unusedZ fieldPlace stepPlaces blank tidyAs memoryNumber vacant four five six seven judgeBy whole

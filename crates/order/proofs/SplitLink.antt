@@ -8,7 +8,7 @@ use native.Mathlib.Numerals.{add-one}
 use native.Mathlib.Omega.{arith}
 use lib.Dec.{ltb, leb, eqb}
 use lib.ListN.{length, take, drop, length-append}
-use lib.Seq.{split-at}
+use lib.Seq.{split-at, append-snoc}
 use borrow.Author.Tests.{ltb-true, lt-ltb, leb-true}
 use Rattle.lists.specs.Lists.{all, build}
 use Rattle.lists.proofs.Build.{build-ext, build-length, build-getD}
@@ -20,8 +20,8 @@ use Rattle.step.specs.declared.Step.{Step}
 use Rattle.operator.specs.Op.{Op, line, latest, double, deal, gather, Abstract}
 use Rattle.operator.specs.Memory.{PLACES}
 use Rattle.judge.specs.Judge.{variablesGood, seven}
-use Rattle.format.specs.Head.{QUEUES, VARIABLES, OPERATORS}
-use Rattle.rewriter.specs.Rewrite.{isLine, inOf, outOf, stepsOf, at, parted, roomToSplit, touchesNone, writesSome}
+use Rattle.bounds.specs.Bounds.{OPERATORS, VARIABLES, QUEUES}
+use Rattle.rewrite_rules.specs.Rewrite.{isLine, inOf, outOf, stepsOf, at, parted, roomToSplit, touchesNone, writesSome}
 use Rattle.theory.proofs.Equations.{Kind}
 use Rattle.theory.proofs.Rewrites.{All, none-left, also, first, rest, all-join, all-left, all-right, all-of, range, lines}
 use Rattle.theory.proofs.Final.{Made, as-is, splitted, made}
@@ -196,7 +196,11 @@ split-next a i k g l one two four room h =
     let cut : a .ops ≡ whole a p o k ss pre post =
     split-at (a .ops) i (double 0 0 0) l
     ∙ ap₂ (λ (x : Op) (n : ℕ). take i (a .ops) ++ (x ∷ drop n (a .ops))) (is-line (at a i) one) (sym (add-one i)) in
-    record {
+    let joined : parts a p o k ss pre post ≡ parted a i k .ops =
+    ap (λ (os : List Op). pre ++ (dealing a p o k ss pre post ∷ os))
+    (sym (append-snoc (ways a p o k ss pre post) (gathering a p o k ss pre post) post)) in
+    subst (λ (os : List Op). Next a (record { inputs = a .inputs; queues = a .queues + 2 * k; variables = a .variables + 2; ops = os })) joined
+    (record {
       good =
           parted-good a p o k ss pre post (subst (λ (os : List Op). GoodSheet (over a os)) cut g) two four
           (subst (λ (os : List Op). roomToSplit (over a os) k ≡ true) cut room) h;
@@ -204,4 +208,4 @@ split-next a i k g l one two four room h =
       made = λ {I} {Q} {v} {ops} x.
           parted-made a p o k ss pre post (omega arith) h
           (subst (λ (os : List Op). Made I Q v ops (a .queues) (a .variables) (map kindAs os)) cut x);
-    }
+    })

@@ -26,7 +26,7 @@ module _ (t : Sheet) (st : State) (s : List ℤ) (start : GoodStart t st s) wher
 
   pub start-good : GoodM (viewSheet t) (decode st s)
   start-good =
-      machine-of-good (viewSheet t) st s (both-stand (checkOf t) (good (viewSheet t) st s) (start .stands) .1) (start .counts) (start .vars)
+      machine-of-good (viewSheet t) st s (both-stand (checkOf t) (good (viewSheet t) st s) (start .stands) .1) (start .size .counts) (start .size .vars)
 
   pub start-sound : Sound (viewSheet t)
   start-sound = sound-of-accepted t start-sheet

@@ -14,7 +14,7 @@ use Rattle.step.specs.declared.Func.{Func}
 use Rattle.step.specs.declared.Func.the-variants.{None, Keep, Add, Copy, Count, Stamp}
 use Rattle.step.specs.declared.Step.{Step}
 use Rattle.format.proofs.Sizes.{knownSteps}
-use Rattle.rewriter.specs.Rewrite.{touchesNone, writesSome, masked, fieldsRead, fieldsWritten, leaves}
+use Rattle.rewrite_rules.specs.Rewrite.{touchesNone, writesSome, masked, fieldsRead, fieldsWritten, leaves}
 use Rattle.theory.proofs.Equations.{pure1, pure, total1, total, Free, Frees, Freed}
 use Rattle.order.proofs.Model.{stepBy, stepAs}
 use Rattle.order.proofs.KindLaws.{or-none}

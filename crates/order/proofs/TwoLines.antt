@@ -17,9 +17,9 @@ use Rattle.lists.proofs.Tests.{both, or-cases}
 use Rattle.lists.proofs.Places.{getD-any}
 use Rattle.lists.proofs.Cut.{cut-two}
 use Rattle.operator.specs.Op.{Op, line, latest, double, deal, gather, Abstract, reads, defines}
-use Rattle.format.specs.Head.{OPERATORS}
+use Rattle.bounds.specs.Bounds.{OPERATORS}
 use Rattle.machine.proofs.ReaderLaws.{isRead, reader-found, reader-reads}
-use Rattle.rewriter.specs.Rewrite.{isLine, inOf, outOf, stepsOf, at, nextOf, toLine}
+use Rattle.rewrite_rules.specs.Rewrite.{isLine, inOf, outOf, stepsOf, at, nextOf, toLine}
 use Rattle.theory.proofs.Equations.{Kind}
 use Rattle.theory.proofs.Denote.{takesFrom}
 use Rattle.theory.proofs.Sheets.{gives, blank}

@@ -10,21 +10,20 @@ use lib.Dec.{eqb, ltb, leb}
 use lib.ListN.{length, getD, set, length-map, length-set, List·getD-eq-default}
 use lib.Seq.{getD-set-same, getD-set-other}
 use borrow.Author.Tests.{ltb-true, leb-true, eqb-true, eqb-false}
-use Rattle.lists.specs.Lists.{all, sum}
+use Rattle.lists.specs.Lists.{all, sum, member}
 use Rattle.lists.proofs.Build.{order, build-length, build-getD}
 use Rattle.lists.proofs.Tests.{both, all-getD, all-of-each}
 use Rattle.lists.proofs.Members.{all-below}
 use Rattle.operator.specs.Op.{Op, line, latest, double, deal, gather, defines}
-use Rattle.store.specs.Store.{QUEUES}
+use Rattle.bounds.specs.Bounds.{QUEUES, ROOM}
 use Rattle.sheet.specs.declared.Sheet.{Sheet}
 use Rattle.sheet.specs.Answer.{accepted, isAccepted}
 use Rattle.sheet.specs.Sheet.{viewSheet}
 use Rattle.sheet.specs.Check.{checkOf}
-use Rattle.counts.specs.Worst.{ROOM, feedGood, dealt, worstOp, worstFrom}
+use Rattle.counts.specs.Worst.{feedGood, dealt, worstOp, worstFrom}
 use Rattle.counts.specs.Answers.{Counting, worstOf}
 use Rattle.counts.proofs.WorstLaws.{worst-overfed, worst-counted, fed-most, worst-from-length}
 use Rattle.machine.proofs.Sound.{sound-of-accepted}
-use Rattle.theory.proofs.Deal.{oneOf}
 use Rattle.theory.proofs.Equations.{Kind}
 use Rattle.theory.proofs.Sheets.{gives, blank, find-none}
 use Rattle.theory.proofs.Rewrites.{all-at}
@@ -57,14 +56,14 @@ cond-or true false v n = refl
 cond-or false b v n = refl
 
 dealt-at : (qs w : List ℕ) (n k j : ℕ) → below (length w) qs ≡ true → (q : ℕ) →
-    at (dealt w n (suc k) j qs) q ≡ cond (oneOf q qs) ((n + k) / suc k) (at w q)
+    at (dealt w n (suc k) j qs) q ≡ cond (member q qs) ((n + k) / suc k) (at w q)
 dealt-at [] w n k j h q = refl
 dealt-at (r ∷ qs) w n k j h q =
     let p = both (ltb r (length w)) (below (length w) qs) h in
     let v = (n + k) / suc k in
     dealt-at qs (set w r v) n k (suc j) (ap (λ (m : ℕ). below m qs) (length-set w r v) ∙ p .1) q
-    ∙ ap (λ (m : ℕ). cond (oneOf q qs) v m) (set-at w r v q (ltb-true r (length w) (p .0)))
-    ∙ cond-or (eqb q r) (oneOf q qs) v (at w q)
+    ∙ ap (λ (m : ℕ). cond (member q qs) v m) (set-at w r v q (ltb-true r (length w) (p .0)))
+    ∙ cond-or (eqb q r) (member q qs) v (at w q)
 
 -- a sum from its front
 abbrev tsum : ℕ → (ℕ → ℕ) → ℕ
@@ -96,7 +95,7 @@ put-as w (deal c p []) h q = refl
 put-as w (deal c p (r ∷ qs)) h q =
     let e : length qs ≡ suc (length qs) - 1 = omega arith in
     dealt-at (r ∷ qs) w (at w p) (length qs) 0 h q
-    ∙ ap (λ (k : ℕ). cond (oneOf q (r ∷ qs)) ((at w p + k) / suc (length qs)) (at w q)) e
+    ∙ ap (λ (k : ℕ). cond (member q (r ∷ qs)) ((at w p + k) / suc (length qs)) (at w q)) e
 put-as w (gather c o ps) h q =
     set-at w o (sum (map (λ (p : ℕ). getD w p 0) ps)) q (ltb-true o (length w) (both (ltb o (length w)) true h .0))
     ∙ ap (λ (m : ℕ). cond (eqb q o) m (at w q)) (sum-as w ps)

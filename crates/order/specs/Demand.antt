@@ -9,7 +9,7 @@ use Rattle.sheet.specs.declared.Sheet.{Sheet}
 use Rattle.sheet.specs.Answer.{accepted}
 use Rattle.machine.specs.declared.State.{State}
 use Rattle.machine.specs.Calls.{Call, freshOf, runOf, readyOf}
-use Rattle.order.specs.Order.{calmSheet, Made, Feed, fed, Taken, given, toInputs, wideFeeds, roomy, outputs}
+use Rattle.order.specs.Order.{calmSheet, Made, Feed, fed, AllTaken, given, toInputs, wideFeeds, roomy, outputs}
 
 -- one side of the comparison: a sheet started fresh (whatever state and store held), fed, and fired from a list of queue numbers
 pub record Side : Type 0 where
@@ -28,12 +28,16 @@ filled x = fed (x .sheet) (begun x) (x .feeds)
 abbrev pub ended : Side → Call
 ended x = runOf (x .sheet) (filled x .state) (filled x .store) (x .firings) .call
 
--- what is asked of each side: a fresh start, items for inputs, worst counts of at most 64, and firings until nothing can fire
-pub record GoodSide (x : Side) : Type 0 where
+-- what is asked of each side: a fresh start, items for inputs and worst counts of at most 64
+pub record GoodFeeds (x : Side) : Type 0 where
   pub fresh : begun x .answer ≡ accepted
   pub wide : wideFeeds (x .feeds) ≡ true
   pub inputs : toInputs (x .sheet) (x .feeds) ≡ true
   pub roomy : roomy (x .sheet) (x .feeds) ≡ true
+
+-- and firings until nothing can fire
+pub record GoodSide (x : Side) : Type 0 where
+  pub feeds : GoodFeeds x
   pub rest : readyOf (x .sheet) (ended x .state) (ended x .store) .set ≡ 0
 
 -- the same items in the same order for each input
@@ -46,8 +50,8 @@ variablesOf t c = take (t .variables) (c .state .vars)
 
 -- what follows: every feed, both runs and both ready sets were accepted, and outputs and variables are the same
 pub record Agreed (x y : Side) : Type 0 where
-  pub fed-first : Taken (x .sheet) (begun x) (x .feeds)
-  pub fed-second : Taken (y .sheet) (begun y) (y .feeds)
+  pub fed-first : AllTaken (x .sheet) (begun x) (x .feeds)
+  pub fed-second : AllTaken (y .sheet) (begun y) (y .feeds)
   pub ran-first : ended x .answer ≡ accepted
   pub ran-second : ended y .answer ≡ accepted
   pub at-rest-first : readyOf (x .sheet) (ended x .state) (ended x .store) .answer ≡ accepted

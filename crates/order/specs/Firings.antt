@@ -5,19 +5,22 @@ use mathlib.Core.Bool.{true}
 use mathlib.Core.List.{List}
 use lib.ListN.{length}
 use lib.IntN.{ℤ}
-use Rattle.format.specs.Head.{VARIABLES}
-use Rattle.store.specs.Store.{QUEUES}
+use Rattle.bounds.specs.Bounds.{VARIABLES, QUEUES}
 use Rattle.sheet.specs.declared.Sheet.{Sheet}
 use Rattle.sheet.specs.Answer.{accepted}
 use Rattle.machine.specs.declared.State.{State}
-use Rattle.machine.specs.Calls.{standing, ReadyCall, runOf, readyOf}
+use Rattle.machine.specs.Calls.{standsOf, ReadyCall, runOf, readyOf}
 use Rattle.order.specs.Order.{calmSheet}
 
--- a state that refusal 8 lets pass, fresh or not; the lengths are those of every state of the program
-pub record GoodStart (t : Sheet) (st : State) (s : List ℤ) : Type 0 where
+-- the lengths of every state of the program
+pub record Sized (st : State) : Type 0 where
   pub counts : length (st .counts) ≡ QUEUES
   pub vars : length (st .vars) ≡ VARIABLES
-  pub stands : standing t st s ≡ accepted
+
+-- a state that refusal 8 lets pass, fresh or not
+pub record GoodStart (t : Sheet) (st : State) (s : List ℤ) : Type 0 where
+  pub size : Sized st
+  pub stands : standsOf t st s ≡ accepted
 
 -- what the ready set answers after a run
 abbrev pub readyAfter : Sheet → State → List ℤ → List ℕ → ReadyCall

@@ -11,9 +11,8 @@ use Rattle.sheet.specs.Answer.{accepted, isAccepted}
 use Rattle.sheet.specs.Sheet.{viewSheet}
 use Rattle.sheet.specs.Check.{checkOf}
 use Rattle.counts.specs.Calm.{isCalm}
-use Rattle.counts.specs.Worst.{ROOM}
+use Rattle.bounds.specs.Bounds.{ROOM, FIELDS, QUEUES}
 use Rattle.counts.specs.Answers.{worstOf}
-use Rattle.store.specs.Store.{QUEUES, FIELDS}
 use Rattle.store.specs.declared.Item.{Item}
 use Rattle.machine.specs.Machine.{isOutput}
 use Rattle.machine.specs.Numbers.{decode}
@@ -42,11 +41,11 @@ fed t c [] = c
 fed t c (x ∷ xs) = fed t (feedOf t (c .state) (c .store) (x .queue) (x .item)) xs
 
 -- each of them accepted
-abbrev pub Taken : Sheet → Call → List Feed → Type 0
-Taken t c [] = Unit
-Taken t c (x ∷ xs) =
+abbrev pub AllTaken : Sheet → Call → List Feed → Type 0
+AllTaken t c [] = Unit
+AllTaken t c (x ∷ xs) =
     (feedOf t (c .state) (c .store) (x .queue) (x .item) .answer ≡ accepted)
-    × Taken t (feedOf t (c .state) (c .store) (x .queue) (x .item)) xs
+    × AllTaken t (feedOf t (c .state) (c .store) (x .queue) (x .item)) xs
 
 -- the items that the feeds give to a queue, in order, and how many: the numbers that the worst counts are asked with
 abbrev pub given : List Feed → ℕ → List Item

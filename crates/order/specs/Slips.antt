@@ -6,21 +6,18 @@ use mathlib.Core.List.{List, [], _∷_, _++_, map}
 use lib.Dec.{eqb}
 use lib.ListN.{replicate}
 use lib.IntN.{ℤ, pos, negsuc}
-use Rattle.lists.specs.Lists.{pad}
-use Rattle.step.specs.declared.Func.the-variants.{Add, Copy, Count, Stamp}
-use Rattle.step.specs.declared.Step.{Step}
 use Rattle.operator.specs.Op.{line, latest, deal, gather}
-use Rattle.format.specs.Head.{VARIABLES}
 use Rattle.sheet.specs.declared.Sheet.{Sheet}
 use Rattle.sheet.specs.Answer.{accepted, isAccepted}
 use Rattle.store.specs.declared.Item.{Item}
-use Rattle.store.specs.Store.{QUEUES}
+use Rattle.bounds.specs.Bounds.{ROOM}
 use Rattle.machine.specs.Machine.{Machine}
 use Rattle.machine.specs.Numbers.{stateOf, storeIn}
 use Rattle.machine.specs.Calls.{Call, ReadyCall, runOf, readyOf}
 use Rattle.order.specs.Order.{Feed, outputs}
 use Rattle.order.specs.Demand.{filled, variablesOf}
-use Rattle.order.specs.Instance.{sheetOf, item, side, keepTwo, lessFive, sheetA, itemsA}
+use Rattle.order.specs.Samples.{sheetOf, item, of, holding, addOne, copyTo, countTo, stampTo}
+use Rattle.order.specs.Instance.{side, keepTwo, lessFive, sheetA, itemsA}
 
 -- what a run ends with: the ready set, the items of the outputs, and the variables that both sheets have
 pub record End : Type 0 where
@@ -57,16 +54,13 @@ sameLeft x y =
     sameList (sameList (λ (a b : Item). sameList sameZ (a .f) (b .f))) (x .items) (y .items) && sameList sameZ (x .variables) (y .variables)
 
 -- a call has left what is told: s is the sheet whose variables are looked at
-abbrev pub leaves : Sheet → Sheet → Call → ReadyCall → End → Bool
-leaves s t c r e =
+abbrev pub endsWith : Sheet → Sheet → Call → ReadyCall → End → Bool
+endsWith s t c r e =
     isAccepted (r .answer)
     && (eqb (r .set) (e .set) && sameLeft (record { set = 0; items = outputs t c; variables = variablesOf s c }) e)
 
 abbrev pub calledEnds : Sheet → Sheet → Call → End → Bool
-calledEnds s t c e = leaves s t c (readyOf t (c .state) (c .store)) e
-
-abbrev pub held : List (List Item) → Machine
-held xs = record { queues = pad QUEUES [] xs; vars = replicate VARIABLES (pos 0) }
+calledEnds s t c e = endsWith s t c (readyOf t (c .state) (c .store)) e
 
 abbrev pub ends : Sheet → Sheet → Machine → List ℕ → End → Bool
 ends s t m l e = calledEnds s t (runOf t (stateOf m) (storeIn m) l .call) e
@@ -74,28 +68,13 @@ ends s t m l e = calledEnds s t (runOf t (stateOf m) (storeIn m) l .call) e
 -- both sheets end as told, and what they leave is not the same
 abbrev pub shows : Slip → Bool
 shows x =
-    ends (x .first) (x .first) (held (x .before)) (x .firings) (x .end)
-    && (ends (x .first) (x .second) (held (x .before)) (x .others) (x .otherEnd) && not (sameLeft (x .end) (x .otherEnd)))
+    ends (x .first) (x .first) (holding (x .before) []) (x .firings) (x .end)
+    && (ends (x .first) (x .second) (holding (x .before) []) (x .others) (x .otherEnd) && not (sameLeft (x .end) (x .otherEnd)))
 
 -- ---- the sheets, and what a wrong rewriting would make of them
 
 abbrev pub rests : List (List Item) → List ℤ → End
 rests xs vs = record { set = 0; items = xs; variables = vs }
-
-abbrev pub of : ℤ → Item
-of a = item a (pos 0) (pos 0) (pos 0)
-
-abbrev pub addFirst : Step
-addFirst = record { func = Add; variable = 255; p = 0; r = 0; low = pos 1; high = pos 0 }
-
-abbrev pub copyFirst : Step
-copyFirst = record { func = Copy; variable = 255; p = 0; r = 1; low = pos 0; high = pos 0 }
-
-abbrev pub countLast : Step
-countLast = record { func = Count; variable = 0; p = 3; r = 0; low = pos 0; high = pos 0 }
-
-abbrev pub stampLast : Step
-stampLast = record { func = Stamp; variable = 0; p = 3; r = 0; low = pos 0; high = pos 0 }
 
 -- sheet A with its Keep line split two ways
 abbrev pub keepSplit : Sheet
@@ -113,35 +92,35 @@ abbrev pub waiting : List ℕ
 waiting = 0 ∷ 0 ∷ 0 ∷ 3 ∷ 4 ∷ 3 ∷ 5 ∷ 6 ∷ 5 ∷ 1 ∷ 1 ∷ []
 
 abbrev pub stuck : Call
-stuck = runOf keepSplit (stateOf (held (itemsA ∷ []))) (storeIn (held (itemsA ∷ []))) waiting .call
+stuck = runOf keepSplit (stateOf (holding (itemsA ∷ []) [])) (storeIn (holding (itemsA ∷ []) [])) waiting .call
 
 -- a line that counts, and split two ways
 abbrev pub counting : Sheet
-counting = sheetOf 1 2 1 (line 0 1 (countLast ∷ []) ∷ [])
+counting = sheetOf 1 2 1 (line 0 1 (countTo 0 3 ∷ []) ∷ [])
 
 abbrev pub countSplit : Sheet
 countSplit =
     sheetOf 1 6 3
     (deal 1 0 (2 ∷ 3 ∷ [])
-    ∷ line 2 4 (countLast ∷ [])
-    ∷ line 3 5 (countLast ∷ [])
+    ∷ line 2 4 (countTo 0 3 ∷ [])
+    ∷ line 3 5 (countTo 0 3 ∷ [])
     ∷ gather 2 1 (4 ∷ 5 ∷ [])
     ∷ [])
 
 -- Copy 0 to 1 and then Add to 0: the Add reads and writes no field that the Copy writes, but the Copy reads what the Add writes
 abbrev pub copying : Sheet
-copying = sheetOf 1 3 0 (line 0 1 (copyFirst ∷ []) ∷ line 1 2 (addFirst ∷ []) ∷ [])
+copying = sheetOf 1 3 0 (line 0 1 (copyTo 0 1 ∷ []) ∷ line 1 2 (addOne ∷ []) ∷ [])
 
 abbrev pub copyingReordered : Sheet
-copyingReordered = sheetOf 1 3 0 (line 0 1 (addFirst ∷ []) ∷ line 1 2 (copyFirst ∷ []) ∷ [])
+copyingReordered = sheetOf 1 3 0 (line 0 1 (addOne ∷ []) ∷ line 1 2 (copyTo 0 1 ∷ []) ∷ [])
 
 -- a line that counts every item and keeps those with 2 in field 0
 abbrev pub dropping : Sheet
-dropping = sheetOf 1 2 1 (line 0 1 (countLast ∷ keepTwo ∷ []) ∷ [])
+dropping = sheetOf 1 2 1 (line 0 1 (countTo 0 3 ∷ keepTwo ∷ []) ∷ [])
 
 -- Latest and Stamp on one variable
 abbrev pub restless : Sheet
-restless = sheetOf 2 3 1 (latest 0 0 1 ∷ line 1 2 (stampLast ∷ []) ∷ [])
+restless = sheetOf 2 3 1 (latest 0 0 1 ∷ line 1 2 (stampTo 0 3 ∷ []) ∷ [])
 
 -- ---- the table
 
@@ -152,10 +131,10 @@ keepRow =
       before = itemsA ∷ [];
       first = sheetA;
       firings = 0 ∷ 0 ∷ 1 ∷ 0 ∷ 1 ∷ [];
-      end = rests ((item (pos 2) (pos 45) (pos 0) (pos 0) ∷ item (pos 2) (negsuc 7) (pos 7) (pos 0) ∷ []) ∷ []) [];
+      end = rests ((item (pos 2 ∷ pos 45 ∷ []) ∷ item (pos 2 ∷ negsuc 7 ∷ pos 7 ∷ []) ∷ []) ∷ []) [];
       second = keepSplit;
       others = waiting;
-      otherEnd = rests ((item (pos 2) (pos 45) (pos 0) (pos 0) ∷ []) ∷ []) [];
+      otherEnd = rests ((item (pos 2 ∷ pos 45 ∷ []) ∷ []) ∷ []) [];
     }
 
 -- a Count is split: the copies share a variable, and the second item may be counted first
@@ -165,10 +144,10 @@ countRow =
       before = (of (pos 8) ∷ of (pos 9) ∷ []) ∷ [];
       first = counting;
       firings = 0 ∷ 0 ∷ [];
-      end = rests ((item (pos 8) (pos 0) (pos 0) (pos 1) ∷ item (pos 9) (pos 0) (pos 0) (pos 2) ∷ []) ∷ []) (pos 2 ∷ []);
+      end = rests ((item (pos 8 ∷ pos 0 ∷ pos 0 ∷ pos 1 ∷ []) ∷ item (pos 9 ∷ pos 0 ∷ pos 0 ∷ pos 2 ∷ []) ∷ []) ∷ []) (pos 2 ∷ []);
       second = countSplit;
       others = 0 ∷ 0 ∷ 3 ∷ 2 ∷ 4 ∷ 5 ∷ [];
-      otherEnd = rests ((item (pos 8) (pos 0) (pos 0) (pos 2) ∷ item (pos 9) (pos 0) (pos 0) (pos 1) ∷ []) ∷ []) (pos 2 ∷ []);
+      otherEnd = rests ((item (pos 8 ∷ pos 0 ∷ pos 0 ∷ pos 2 ∷ []) ∷ item (pos 9 ∷ pos 0 ∷ pos 0 ∷ pos 1 ∷ []) ∷ []) ∷ []) (pos 2 ∷ []);
     }
 
 -- fields are tested one way only: reordered, the Copy takes the field after the Add
@@ -178,10 +157,10 @@ copyRow =
       before = (of (pos 7) ∷ []) ∷ [];
       first = copying;
       firings = 0 ∷ 1 ∷ [];
-      end = rests ((item (pos 8) (pos 7) (pos 0) (pos 0) ∷ []) ∷ []) [];
+      end = rests ((item (pos 8 ∷ pos 7 ∷ []) ∷ []) ∷ []) [];
       second = copyingReordered;
       others = 0 ∷ 1 ∷ [];
-      otherEnd = rests ((item (pos 8) (pos 8) (pos 0) (pos 0) ∷ []) ∷ []) [];
+      otherEnd = rests ((item (pos 8 ∷ pos 8 ∷ []) ∷ []) ∷ []) [];
     }
 
 -- the output is full, but the line drops the next item: queue 0 is ready, and firing it moves the variable on;
@@ -189,23 +168,23 @@ copyRow =
 abbrev pub fullRow : Slip
 fullRow =
     record {
-      before = (of (pos 3) ∷ []) ∷ replicate 64 (of (pos 2)) ∷ [];
+      before = (of (pos 3) ∷ []) ∷ replicate ROOM (of (pos 2)) ∷ [];
       first = dropping;
       firings = [];
-      end = record { set = 1; items = replicate 64 (of (pos 2)) ∷ []; variables = pos 0 ∷ [] };
+      end = record { set = 1; items = replicate ROOM (of (pos 2)) ∷ []; variables = pos 0 ∷ [] };
       second = dropping;
       others = 0 ∷ [];
-      otherEnd = rests (replicate 64 (of (pos 2)) ∷ []) (pos 1 ∷ []);
+      otherEnd = rests (replicate ROOM (of (pos 2)) ∷ []) (pos 1 ∷ []);
     }
 
 -- a sheet that is not calm: the stamp is the variable before or after Latest
 abbrev pub restlessRow : Slip
 restlessRow =
     record {
-      before = (item (pos 0) (pos 5) (pos 0) (pos 0) ∷ []) ∷ (of (pos 1) ∷ []) ∷ [];
+      before = (item (pos 0 ∷ pos 5 ∷ []) ∷ []) ∷ (of (pos 1) ∷ []) ∷ [];
       first = restless;
       firings = 0 ∷ 1 ∷ [];
-      end = rests ((item (pos 1) (pos 0) (pos 0) (pos 5) ∷ []) ∷ []) (pos 5 ∷ []);
+      end = rests ((item (pos 1 ∷ pos 0 ∷ pos 0 ∷ pos 5 ∷ []) ∷ []) ∷ []) (pos 5 ∷ []);
       second = restless;
       others = 1 ∷ 0 ∷ [];
       otherEnd = rests ((of (pos 1) ∷ []) ∷ []) (pos 5 ∷ []);
@@ -226,5 +205,5 @@ filledBy t x = filled (side t (feedsIn 0 (x .before)) [])
 -- on both sheets a fresh start and accepted feeds leave what the queues hold
 abbrev pub FedStart : Slip → Type 0
 FedStart x =
-    (filledBy (x .first) x ≡ record { answer = accepted; state = stateOf (held (x .before)); store = storeIn (held (x .before)) })
-    × (filledBy (x .second) x ≡ record { answer = accepted; state = stateOf (held (x .before)); store = storeIn (held (x .before)) })
+    (filledBy (x .first) x ≡ record { answer = accepted; state = stateOf (holding (x .before) []); store = storeIn (holding (x .before) []) })
+    × (filledBy (x .second) x ≡ record { answer = accepted; state = stateOf (holding (x .before) []); store = storeIn (holding (x .before) []) })

@@ -1,7 +1,7 @@
 // Text for standard output. It waits in a lent buffer, `used` bytes of it, and is written when that is full.
 use sheet::Answer;
 use store::Item;
-ghost use Prim.Native.Nat.{_<_, _≤_};
+ghost use Prim.Native.Nat.{_<_};
 ghost use lib.ListN.{length};
 
 // Puts one byte behind those that wait.
@@ -175,4 +175,15 @@ pub fn put_bad(out: &mut [u8], used: usize) -> usize
     ensures { λ r. ⌜ r < length (now (out .exit)) ⌝ }
 {
     put_line(&mut *out, used, b"bad call")
+}
+
+// What a call says that is done wherever its body is good.
+pub fn put_done(out: &mut [u8], used: usize, good: bool) -> usize
+    requires { ⌜ used < length (now out) ⌝ }
+    ensures { λ r. ⌜ r < length (now (out .exit)) ⌝ }
+{
+    if good {
+        return put_line(&mut *out, used, b"done");
+    }
+    put_bad(&mut *out, used)
 }

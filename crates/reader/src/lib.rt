@@ -11,12 +11,11 @@ ghost use Rattle.operator.specs.Memory.{view, Ready};
 ghost use Rattle.sheet.specs.Answer.{accepted};
 ghost use Rattle.sheet.specs.Sheet.{viewSheet};
 ghost use Rattle.sheet.specs.Check.{checkOf};
-ghost use Rattle.format.specs.Head.{OPERATORS};
-ghost use Rattle.store.specs.Store.{QUEUES};
-ghost use Rattle.machine.specs.Working.{readersOf, readersWith};
+ghost use Rattle.bounds.specs.Bounds.{OPERATORS, QUEUES};
+ghost use Rattle.machine.specs.Readers.{readersOf, readersWith};
 
 // One past the last operator, where no operator reads a queue.
-const NONE: u8 = decode::OPERATORS;
+const NONE: u8 = bounds::OPERATORS;
 
 // The readers with operator i as the one of each of its in queues.
 fn with_reader(readers: [u8; machine::QUEUES], o: Operator, i: u8) -> [u8; machine::QUEUES]

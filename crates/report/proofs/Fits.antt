@@ -6,26 +6,25 @@ use mathlib.Core.Bool.{Bool, true, false, cond}
 use mathlib.Core.List.{List, [], _∷_, _++_}
 use Prim.Native.Nat.{ℕ, zero, suc, _+_, _*_, _^_, _≤_, _<_}
 use native.Mathlib.Omega.{arith}
-use lib.Dec.{eqb, lit<}
+use lib.Dec.{lit<}
 use lib.ListN.{length, getD, take, length-append}
 use lib.Seq.{length-take-le}
 use lib.IntN.{ℤ, pos}
 use lib.Signed.{mag}
 use Rattle.lists.specs.Lists.{build, chain}
 use Rattle.operator.specs.Op.{Abstract}
+use Rattle.bounds.specs.Bounds.{VARIABLES, QUEUES, ROOM}
 use Rattle.lines.specs.Lines.{itemLine, queueLines, variableLines, countsLine, LINE}
 use Rattle.lines.proofs.Lengths.{item-short, variables-short, refusal-short, counts-short}
-use Rattle.store.specs.Store.{QUEUES, ROOM}
 use Rattle.store.specs.Queues.{Wide}
 use Rattle.store.specs.declared.Item.{Item}
 use Rattle.store.proofs.StoreLaws.{wide-at}
 use Rattle.machine.specs.Machine.{Machine, isOutput}
-use Rattle.machine.specs.Ready.{readySet}
 use Rattle.machine.specs.Numbers.{GoodM}
 use Rattle.machine.proofs.Sound.{Sound}
-use Rattle.trial.specs.Trial.{Trial, outputsAt, outputsOf, variablesOf, trialOf}
+use Rattle.trial.specs.Trial.{Trial, trialOf, atRest, outputsAt, outputsOf, variablesIn}
 use Rattle.trial.proofs.Narrow.{NarrowM, NarrowQueue}
-use Rattle.trial.proofs.Within.{Figures, Refusal, trial-within}
+use Rattle.trial.proofs.Within.{Ended, Refusal, trial-within}
 use Rattle.report.specs.Print.{itemLines, printed, textOf}
 use Rattle.report.specs.Reports.{TEXT}
 use Rattle.report.proofs.Outputs.{chain-chain, lines-by}
@@ -80,25 +79,25 @@ module _ (a : Abstract) (m : Machine) (sound : Sound a) (good : GoodM a m) (narr
       (λ k l. output-short k (omega (arith, sound .queues))) in
       omega (arith, ap length e, r, sound .queues)
 
-  taken-narrow : (k : ℕ) → mag (getD (variablesOf a m) k (pos 0)) < 2 ^ 31
+  taken-narrow : (k : ℕ) → mag (getD (variablesIn a m) k (pos 0)) < 2 ^ 31
   taken-narrow k = taken-at (a .variables) (m .vars) (narrow .vars) k
 
-  vars-short : length (variableLines 0 (variablesOf a m)) ≤ LINE * 16
+  vars-short : length (variableLines 0 (variablesIn a m)) ≤ LINE * VARIABLES
   vars-short =
-      let n : length (variablesOf a m) ≡ a .variables = length-take-le (a .variables) (m .vars)
+      let n : length (variablesIn a m) ≡ a .variables = length-take-le (a .variables) (m .vars)
       (omega (arith, good .size, sound .variables)) in
-      omega (arith, variables-short 0 (variablesOf a m) (omega (arith, sound .variables)) taken-narrow, sound .variables)
+      omega (arith, variables-short 0 (variablesIn a m) (omega (arith, sound .variables)) taken-narrow, sound .variables)
 
 -- ---- the whole text
 
-figures-fit : (f : Trial) → Figures f → length (printed f) ≤ TEXT
+ended-fits : (f : Trial) → Ended f → length (printed f) ≤ TEXT
 unfolding printed
-figures-fit f h =
+ended-fits f h =
     let r = h .ran in
     let a = h .sheet in
-    let rest = eqb (readySet a (r .machine)) 0 in
+    let rest = atRest a (r .machine) in
     let items = itemLines (outputsOf a (r .machine)) in
-    let vars = variableLines 0 (variablesOf a (r .machine)) in
+    let vars = variableLines 0 (variablesIn a (r .machine)) in
     let o = outputs-short a (r .machine) (h .sound) (h .good) (h .narrow) in
     let v = vars-short a (r .machine) (h .sound) (h .good) (h .narrow) in
     let few = h .few in
@@ -115,4 +114,4 @@ refusal-fits f h =
     (omega (arith, refusal-short (h .number) (h .spot) (omega arith) (omega arith)))
 
 pub text-fits : (s : List ℕ) → ((k : ℕ) → getD s k 0 < 256) → length (textOf s) ≤ TEXT
-text-fits s below = ⊎-elim (figures-fit (trialOf s)) (refusal-fits (trialOf s)) (trial-within s below)
+text-fits s below = ⊎-elim (ended-fits (trialOf s)) (refusal-fits (trialOf s)) (trial-within s below)

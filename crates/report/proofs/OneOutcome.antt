@@ -13,22 +13,22 @@ use Rattle.report.specs.Print.{textOf}
 use Rattle.report.specs.Reports.{TEXT, reportOf, Reports}
 
 printed-eq : {a a' : Answer} {n n' : ℕ} → a ≡ a' → n ≡ n' →
-    _≡_ {A = Printed} (record { answer = a; length = n }) (record { answer = a'; length = n' })
+    _≡_ {A = Printed} (record { answer = a; size = n }) (record { answer = a'; size = n' })
 printed-eq p q = rw (p, q)
 
 pub report-one : {input before after after' : List ℕ} {r r' : Printed} → Reports input before after r → Reports input before after' r' →
     (r ≡ r') × (after ≡ after')
 report-one {r = r} {r' = r'} h k = (
-  printed-eq (paper-injective (r .answer) (r' .answer) (h .answer ∙ sym (k .answer))) (h .length ∙ sym (k .length)),
+  printed-eq (paper-injective (r .answer) (r' .answer) (h .answer ∙ sym (k .answer))) (h .size ∙ sym (k .size)),
   h .buffer ∙ sym
       (k .buffer),
 )
 
 -- the text of every input that the program is given fits into TEXT bytes (Fits.antt: of every list of bytes), and stands at the front of the buffer
 pub text-at-front : {input before after : List ℕ} {r : Printed} → Reports input before after r → TEXT ≤ length before →
-    (length (textOf input) ≤ TEXT) × (r .length ≡ length (textOf input)) × (after ≡ textOf input ++ drop (length (textOf input)) before)
+    (length (textOf input) ≤ TEXT) × (r .size ≡ length (textOf input)) × (after ≡ textOf input ++ drop (length (textOf input)) before)
 unfolding reportOf
 text-at-front {before = before} h l =
     let b = le-leb TEXT (length before) l in
-    let n = rw b at (h .length) in
+    let n = rw b at (h .size) in
     (omega (arith, h .fits), n, rw b at (h .buffer))

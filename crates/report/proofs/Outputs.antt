@@ -10,22 +10,22 @@ use lib.ListN.{length, getD, take, drop}
 use lib.IntN.{ℤ}
 use borrow.Author.Tests.{not-true, not-false}
 use Rattle.lists.specs.Lists.{build, chain}
-use Rattle.format.specs.Head.{OPERATORS}
+use Rattle.bounds.specs.Bounds.{OPERATORS, QUEUES, ROOM}
 use Rattle.sheet.specs.declared.Sheet.{Sheet}
 use Rattle.sheet.specs.Sheet.{viewSheet}
-use Rattle.lists.proofs.Chains.{chain-snoc}
-use Rattle.text.specs.Text.{Puts}
+use Rattle.lists.proofs.Chains.{chain-snoc, chain-append}
+use Rattle.text.specs.Text.{PutsText}
 use Rattle.lines.specs.Lines.{itemLine, queueLines, LINE}
-use Rattle.lines.proofs.LineLaws.{chain-append}
 use Rattle.lines.proofs.Pieces.{Piece, piece-of, pieces-none, pieces-more, pieces-all}
 use Rattle.text.proofs.Putting.{puts-none}
-use Rattle.store.specs.Store.{QUEUES, ROOM, PART, STORE, part}
+use Rattle.store.specs.Store.{PART, STORE, part}
 use Rattle.store.specs.Queues.{itemsOf}
 use Rattle.store.specs.declared.Item.{Item}
 use Rattle.machine.specs.declared.State.{State}
 use Rattle.machine.specs.Machine.{isOutput}
 use Rattle.machine.specs.Numbers.{decode}
-use Rattle.machine.specs.Working.{readersOf, Stands}
+use Rattle.machine.specs.Readers.{readersOf}
+use Rattle.machine.specs.Working.{Stands}
 use Rattle.sheet.proofs.Accepted.{ranges-of-accepted}
 use Rattle.machine.proofs.Good.{decoded-at, good-exactly, tested-of-good}
 use Rattle.calls.proofs.Taking.{output-by-table}
@@ -52,7 +52,7 @@ module _ {A B : Type 0} where
 -- ---- one queue
 
 pub no-lines : (b : Bool) (q n : ℕ) (store : List ℤ) (s : List ℕ) (at : ℕ) → not b ≡ true →
-    Puts (linesIf b q n store) s at s at × (at ≤ at + LINE * ROOM)
+    PutsText (linesIf b q n store) s at s at × (at ≤ at + LINE * ROOM)
 no-lines b q n store s at h = rw (not-true b h) (puts-none s at, omega arith)
 
 part-of : (store : List ℤ) (q : ℕ) → take (PART * q + PART - PART * q) (drop (PART * q) store) ≡ part store q
@@ -60,8 +60,8 @@ unfolding part
 part-of store q = let e : PART * q + PART - PART * q ≡ PART = omega arith in ap (λ (k : ℕ). take k (drop (PART * q) store)) e
 
 pub some-lines : (b : Bool) (q n : ℕ) (store : List ℤ) (s : List ℕ) (at : ℕ) (t : List ℕ) (end : ℕ) → not b ≡ false → n ≤ ROOM →
-    Puts (queueLines q (itemsOf n (take (PART * q + PART - PART * q) (drop (PART * q) store)))) s at t end × (end ≤ at + LINE * n) →
-    Puts (linesIf b q n store) s at t end × (end ≤ at + LINE * ROOM)
+    PutsText (queueLines q (itemsOf n (take (PART * q + PART - PART * q) (drop (PART * q) store)))) s at t end × (end ≤ at + LINE * n) →
+    PutsText (linesIf b q n store) s at t end × (end ≤ at + LINE * ROOM)
 some-lines b q n store s at t end h l p =
     (rw (not-false b h, sym (part-of store q)) (p .0), omega (arith, p .1))
 
@@ -82,7 +82,7 @@ printing-starts s at store rs cs n = (omega arith, pieces-none (LINE * ROOM) s a
 
 pub printing-goes-on : (s₀ : List ℕ) (at : ℕ) (store : List ℤ) (rs cs : List ℕ) (n : ℕ) (s : List ℕ) (end q : ℕ) (t : List ℕ) (e i : ℕ) →
     Printing s₀ at store rs cs n s end q → q < n → i ≡ getD rs q OPERATORS →
-    Puts (linesIf (eqb i OPERATORS) q (getD cs q 0) store) s end t e × (e ≤ end + LINE * ROOM) → Printing s₀ at store rs cs n t e (q + 1)
+    PutsText (linesIf (eqb i OPERATORS) q (getD cs q 0) store) s end t e × (e ≤ end + LINE * ROOM) → Printing s₀ at store rs cs n t e (q + 1)
 printing-goes-on s₀ at store rs cs n s end q t e i p l h u = (
   omega arith,
   pieces-more (LINE * ROOM) q (linesTo rs cs store (q + 1)) (p .1) (piece-of u)
@@ -124,7 +124,7 @@ module _ (t : Sheet) (st : State) (s : List ℤ) (h : Stands t st s) where
 
   pub printing-ends : (rs : List ℕ) → rs ≡ readersOf (viewSheet t .ops) → (s₀ : List ℕ) (at : ℕ) (u : List ℕ) (end q : ℕ) →
       Printing s₀ at s rs (st .counts) (t .queues) u end q → t .queues ≤ q →
-      Puts (itemLines (outputsOf (viewSheet t) (decode st s))) s₀ at u end × (end ≤ at + LINE * ROOM * QUEUES)
+      PutsText (itemLines (outputsOf (viewSheet t) (decode st s))) s₀ at u end × (end ≤ at + LINE * ROOM * QUEUES)
   printing-ends rs e s₀ at u end q p l =
       let i : q ≡ t .queues = omega arith in
       let r = pieces-all (LINE * ROOM) q (t .queues) i (ap (linesTo rs (st .counts) s) i ∙ lines-all rs e) (p .1) in

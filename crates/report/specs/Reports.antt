@@ -15,18 +15,18 @@ TEXT = 131072
 
 pub record Report : Type 0 where
   pub answer : Paper
-  pub length : ℕ
+  pub size : ℕ
   pub buffer : List ℕ
 
 -- the text at the front of the buffer and the rest of it as it was; a shorter buffer is 18 and stays as it was
 unfoldable pub reportOf : List ℕ → List ℕ → Report
 reportOf s l =
-    cond (leb TEXT (lib.ListN.length l))
-    (record { answer = accepted; length = lib.ListN.length (textOf s); buffer = textOf s ++ drop (lib.ListN.length (textOf s)) l })
-    (record { answer = refusedAt 18 0; length = 0; buffer = l })
+    cond (leb TEXT (length l))
+    (record { answer = accepted; size = length (textOf s); buffer = textOf s ++ drop (length (textOf s)) l })
+    (record { answer = refusedAt 18 0; size = 0; buffer = l })
 
 pub record Reports (input before after : List ℕ) (r : Printed) : Type 0 where
   pub answer : paper (r .answer) ≡ reportOf input before .answer
-  pub length : r .length ≡ reportOf input before .length
+  pub size : r .size ≡ reportOf input before .size
   pub buffer : after ≡ reportOf input before .buffer
-  pub fits : r .length ≤ TEXT
+  pub fits : r .size ≤ TEXT

@@ -7,14 +7,14 @@ ghost use Prim.Native.Nat.{_+_, _*_, _≤_, _<_};
 ghost use mathlib.Core.Path.{_≡_};
 ghost use lib.ListN.{length};
 ghost use Rattle.sheet.specs.Sheet.{viewSheet};
-ghost use Rattle.text.specs.Text.{Puts};
+ghost use Rattle.text.specs.Text.{PutsText};
 ghost use Rattle.lines.specs.Lines.{LINE};
-ghost use Rattle.store.specs.Store.{QUEUES, ROOM, STORE};
+ghost use Rattle.bounds.specs.Bounds.{QUEUES, ROOM};
+ghost use Rattle.store.specs.Store.{STORE};
 ghost use Rattle.machine.specs.Numbers.{decode};
 ghost use Rattle.machine.specs.Working.{Stands};
 ghost use Rattle.trial.specs.Trial.{outputsOf};
-ghost use Rattle.trial.specs.Tries.{figuresIn, told};
-ghost use Rattle.report.specs.Print.{itemLines, linesIf, printed};
+ghost use Rattle.report.specs.Print.{itemLines, printed, linesIf, endedIn, told, Shown};
 ghost use Rattle.report.specs.Reports.{TEXT, Reports};
 
 // A buffer of this length is always enough.
@@ -22,13 +22,13 @@ pub const TEXT: usize = 131072;
 
 pub struct Printed {
     pub answer: Answer,
-    pub length: usize,
+    pub size: usize,
 }
 
 // The lines of queue q, which holds n items, if it is an output.
 fn put_output(s: &mut [u8], at: usize, output: bool, q: u8, n: u8, store: &[i32]) -> usize
     requires { ⌜ (at + LINE * ROOM ≤ length (now s)) × (length (now store) ≡ STORE) × (q < QUEUES) × (n ≤ ROOM) ⌝ }
-    ensures { λ r. ⌜ Puts (linesIf output q n (now (store .entry))) (now (s .entry)) at (now (s .exit)) r × (r ≤ at + LINE * ROOM) ⌝ }
+    ensures { λ r. ⌜ PutsText (linesIf output q n (now (store .entry))) (now (s .entry)) at (now (s .exit)) r × (r ≤ at + LINE * ROOM) ⌝ }
 {
     if !output {
         return at;
@@ -41,7 +41,8 @@ fn put_output(s: &mut [u8], at: usize, output: bool, q: u8, n: u8, store: &[i32]
 // The lines of each output, by number.
 fn put_outputs(s: &mut [u8], at: usize, t: Sheet, state: State, store: &[i32]) -> usize
     requires { ⌜ (at + LINE * ROOM * QUEUES ≤ length (now s)) × Stands t state (now store) ⌝ }
-    ensures { λ r. ⌜ Puts (itemLines (outputsOf (viewSheet t) (decode state (now (store .entry))))) (now (s .entry)) at (now (s .exit)) r × (r ≤ at + LINE * ROOM * QUEUES) ⌝ }
+    ensures { λ r. ⌜ PutsText (itemLines (outputsOf (viewSheet t) (decode state (now (store .entry))))) (now (s .entry)) at (now (s .exit)) r
+        × (r ≤ at + LINE * ROOM * QUEUES) ⌝ }
 {
     let rs = reader::readers(t);
     let counts = state.counts;
@@ -52,7 +53,7 @@ fn put_outputs(s: &mut [u8], at: usize, t: Sheet, state: State, store: &[i32]) -
         let i = reader::reader_at(rs, q);
         let j = q as usize;
         let k = counts[j];
-        end = put_output(s, end, i == 16, q, k, store);
+        end = put_output(s, end, i == sheet::OPERATORS, q, k, store);
         q += 1;
     }
     end
@@ -60,8 +61,8 @@ fn put_outputs(s: &mut [u8], at: usize, t: Sheet, state: State, store: &[i32]) -
 
 // The lines of an input that is not refused.
 fn put_figures(s: &mut [u8], r: Tried, store: &[i32]) -> usize
-    requires { ⌜ (TEXT ≤ length (now s)) × Stands (r .sheet) (r .state) (now store) ⌝ }
-    ensures { λ e. ⌜ Puts (printed (figuresIn r (now (store .entry)))) (now (s .entry)) 0 (now (s .exit)) e × (e ≤ TEXT) ⌝ }
+    requires { ⌜ (TEXT ≤ length (now s)) × Shown r (now store) ⌝ }
+    ensures { λ e. ⌜ PutsText (printed (endedIn r (now (store .entry)))) (now (s .entry)) 0 (now (s .exit)) e × (e ≤ TEXT) ⌝ }
 {
     let t = r.sheet;
     let state = r.state;
@@ -73,8 +74,8 @@ fn put_figures(s: &mut [u8], r: Tried, store: &[i32]) -> usize
 
 // The lines of an input.
 fn put_trial(s: &mut [u8], r: Tried, store: &[i32]) -> usize
-    requires { ⌜ (TEXT ≤ length (now s)) × (r .number ≡ 0 → Stands (r .sheet) (r .state) (now store)) ⌝ }
-    ensures { λ e. ⌜ Puts (printed (told r (now (store .entry)))) (now (s .entry)) 0 (now (s .exit)) e × (e ≤ TEXT) ⌝ }
+    requires { ⌜ (TEXT ≤ length (now s)) × (r .number ≡ 0 → Shown r (now store)) ⌝ }
+    ensures { λ e. ⌜ PutsText (printed (told r (now (store .entry)))) (now (s .entry)) 0 (now (s .exit)) e × (e ≤ TEXT) ⌝ }
 {
     let number = r.number;
     if number != 0 {
@@ -83,7 +84,7 @@ fn put_trial(s: &mut [u8], r: Tried, store: &[i32]) -> usize
     put_figures(s, r, store)
 }
 
-// What `bench` prints of an input, to the front of the buffer; its length, or 18 at record 0 for a buffer that is shorter than TEXT.
+// What `bench` prints of an input, to the front of the buffer; its size, or 18 at record 0 for a buffer that is shorter than TEXT.
 pub fn report(input: &[u8], buffer: &mut [u8]) -> Printed
     ensures { λ r. ⌜ Reports (now (input .entry)) (now (buffer .entry)) (now (buffer .exit)) r ⌝ }
 {
@@ -93,7 +94,7 @@ pub fn report(input: &[u8], buffer: &mut [u8]) -> Printed
                 number: 18,
                 spot: 0,
             },
-            length: 0,
+            size: 0,
         };
     }
     let mut store = [0i32; machine::STORE];
@@ -101,6 +102,6 @@ pub fn report(input: &[u8], buffer: &mut [u8]) -> Printed
     let n = put_trial(buffer, r, &store);
     Printed {
         answer: Answer::Done,
-        length: n,
+        size: n,
     }
 }

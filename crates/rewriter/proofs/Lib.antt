@@ -1,10 +1,2 @@
 pub mod Answers
-pub mod Fields
-pub mod Lines
-pub mod Pairs
-pub mod Reordering
-pub mod Falling
-pub mod Fusing
-pub mod Parting
-pub mod Splitting
 pub mod OneOutcome

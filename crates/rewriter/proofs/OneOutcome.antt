@@ -5,8 +5,9 @@ use Prim.Native.Nat.{ℕ}
 use Rattle.sheet.specs.declared.Answer.{Answer}
 use Rattle.sheet.specs.declared.Sheet.{Sheet}
 use Rattle.sheet.proofs.AnswerLaws.{paper-injective}
-use Rattle.rewriter.specs.declared.Rewritten.{Rewritten}
-use Rattle.rewriter.specs.Calls.{Rewriting, Rewrites, fuseOf, splitOf, reorderOf}
+use Rattle.rewrite_rules.specs.declared.Rewritten.{Rewritten}
+use Rattle.rewrite_rules.specs.Answers.{Rewriting, Rewrites}
+use Rattle.rewriter.specs.Calls.{fuseOf, splitOf, reorderOf}
 
 rewritten-eq : {a a' : Answer} {s s' : Sheet} → a ≡ a' → s ≡ s' →
     _≡_ {A = Rewritten} (record { answer = a; sheet = s }) (record { answer = a'; sheet = s' })

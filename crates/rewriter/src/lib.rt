@@ -1,25 +1,15 @@
 // Fuse, split and reorder, on any sheet in memory.
-mod exchange;
-mod join;
-mod pair;
-mod split_line;
-
+use rewrite_rules::Rewritten;
 use sheet::Answer;
 use sheet::Sheet;
 ghost use mathlib.Core.Path.{_≡_};
-ghost use Rattle.sheet.specs.Answer.{paper};
-ghost use Rattle.sheet.specs.Sheet.{noSheet};
-ghost use Rattle.rewriter.specs.Calls.{standing, fuseOf, splitOf, reorderOf, Rewrites};
-
-// The new sheet; on a refusal the one fixed sheet.
-pub struct Rewritten {
-    pub answer: Answer,
-    pub sheet: Sheet,
-}
+ghost use Rattle.sheet.specs.Answer.{paper, isAccepted};
+ghost use Rattle.rewrite_rules.specs.Answers.{Rewrites};
+ghost use Rattle.rewriter.specs.Calls.{calmStands, fuseOf, splitOf, reorderOf};
 
 // The sheet's own refusal, then 13 where it is not calm.
-fn standing(t: Sheet) -> Answer
-    ensures { λ r. ⌜ paper r ≡ standing t ⌝ }
+fn calm_stands(t: Sheet) -> Answer
+    ensures { λ r. ⌜ paper r ≡ calmStands t ⌝ }
 {
     let c = counts::calm(t);
     let a = c.answer;
@@ -35,33 +25,13 @@ fn standing(t: Sheet) -> Answer
     }
 }
 
-fn refused_at(number: u8, spot: u8) -> Rewritten
-    ensures { λ r. ⌜ (r .answer ≡ Answer.RefusedAt number spot) × (r .sheet ≡ noSheet) ⌝ }
+fn is_done(a: Answer) -> bool
+    ensures { λ r. ⌜ r ≡ isAccepted (paper a) ⌝ }
 {
-    let sheet = sheet::no_sheet();
-    Rewritten {
-        answer: Answer::RefusedAt { number, spot },
-        sheet,
-    }
-}
-
-fn refused(number: u8) -> Rewritten
-    ensures { λ r. ⌜ (r .answer ≡ Answer.Refused number) × (r .sheet ≡ noSheet) ⌝ }
-{
-    let sheet = sheet::no_sheet();
-    Rewritten {
-        answer: Answer::Refused { number },
-        sheet,
-    }
-}
-
-// The rewritten sheet.
-fn done(sheet: Sheet) -> Rewritten
-    ensures { λ r. ⌜ (r .answer ≡ Answer.Done) × (r .sheet ≡ sheet) ⌝ }
-{
-    Rewritten {
-        answer: Answer::Done,
-        sheet,
+    match a {
+        Answer::Done => true,
+        Answer::RefusedAt { number, spot } => false,
+        Answer::Refused { number } => false,
     }
 }
 
@@ -69,34 +39,31 @@ fn done(sheet: Sheet) -> Rewritten
 pub fn fuse(t: Sheet, a: u8) -> Rewritten
     ensures { λ r. ⌜ Rewrites (fuseOf t a) (r .answer) (r .sheet) ⌝ }
 {
-    let s = standing(t);
-    match s {
-        Answer::Done => join::fuse_calm(t, a),
-        Answer::RefusedAt { number, spot } => refused_at(number, spot),
-        Answer::Refused { number } => refused(number),
+    let s = calm_stands(t);
+    if is_done(s) {
+        return rewrite_fuse::fuse_calm(t, a);
     }
+    rewrite_rules::not_rewritten(s)
 }
 
 // Split a, k ways: 13 where the sheet is not calm, 14 to 17; else the sheet with a deal, k copies of the line and a gather in its place.
 pub fn split(t: Sheet, a: u8, k: u8) -> Rewritten
     ensures { λ r. ⌜ Rewrites (splitOf t a k) (r .answer) (r .sheet) ⌝ }
 {
-    let s = standing(t);
-    match s {
-        Answer::Done => split_line::split_calm(t, a, k),
-        Answer::RefusedAt { number, spot } => refused_at(number, spot),
-        Answer::Refused { number } => refused(number),
+    let s = calm_stands(t);
+    if is_done(s) {
+        return rewrite_split::split_calm(t, a, k);
     }
+    rewrite_rules::not_rewritten(s)
 }
 
 // Reorder a: 13 where the sheet is not calm, 14, 15 and 17; else the sheet with the steps of a and of the line after it exchanged.
 pub fn reorder(t: Sheet, a: u8) -> Rewritten
     ensures { λ r. ⌜ Rewrites (reorderOf t a) (r .answer) (r .sheet) ⌝ }
 {
-    let s = standing(t);
-    match s {
-        Answer::Done => exchange::reorder_calm(t, a),
-        Answer::RefusedAt { number, spot } => refused_at(number, spot),
-        Answer::Refused { number } => refused(number),
+    let s = calm_stands(t);
+    if is_done(s) {
+        return rewrite_reorder::reorder_calm(t, a);
     }
+    rewrite_rules::not_rewritten(s)
 }

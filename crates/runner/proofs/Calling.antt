@@ -16,17 +16,18 @@ use Rattle.sheet.proofs.AnswerLaws.{both-stand}
 use Rattle.store.specs.declared.Item.{Item}
 use Rattle.machine.specs.declared.ReadySet.{ReadySet}
 use Rattle.machine.specs.declared.State.{State}
-use Rattle.machine.specs.declared.Taken.{Taken}
-use Rattle.machine.specs.Machine.{fireM, feedM, takeM, runM}
-use Rattle.machine.specs.Ready.{SET, readySet}
-use Rattle.machine.specs.Numbers.{decode, good}
-use Rattle.machine.specs.Calls.{Call, TakeCall, RunCall, ReadyCall, noItem, refusing, standing, saved, savedTake, savedRun, readyCall}
-use Rattle.machine.specs.Calls.{fireOf, feedOf, takeOf, runOf, readyOf}
-use Rattle.machine.specs.Working.{Stands, Answers, TakeAnswers, RunAnswers, ReadyAnswers}
+use Rattle.machine.specs.declared.TakenItem.{TakenItem}
+use Rattle.machine.specs.Ready.{SET}
+use Rattle.machine.specs.Numbers.{good}
+use Rattle.machine.specs.Calls.{Call, TakeCall, RunCall, ReadyCall, noItem, unchanged, standsOf, readyCall, fireKnown, feedKnown, takeKnown, runKnown}
+use Rattle.machine.specs.Calls.{readyKnown, fireOf, feedOf, takeOf, runOf, readyOf}
+use Rattle.machine.specs.Answers.{Answers, TakeAnswers, RunAnswers, ReadyAnswers}
+use Rattle.machine.specs.Working.{Stands}
+use Rattle.calls.proofs.Taking.{no-take-answers}
 
--- the refusing call, answered
-refused-answers : (c : Call) (x : Answer) (st : State) (s : List ℤ) → c ≡ refusing (paper x) st s → Answers c x st s
-refused-answers c x st s e =
+-- a call that changes nothing, answered
+unchanged-answers : (c : Call) (x : Answer) (st : State) (s : List ℤ) → c ≡ unchanged (paper x) st s → Answers c x st s
+unchanged-answers c x st s e =
     record {
       answered = sym (ap (λ (d : Call). d .answer) e);
       stated = sym (ap (λ (d : Call). d .state) e);
@@ -45,89 +46,77 @@ set-answers c x n r e d =
     }
 
 -- a is what the test answered, as a match on it has it
-module _ (t : Sheet) (st : State) (s : List ℤ) (a : Answer) (h : paper a ≡ standing t st s) where
+module _ (t : Sheet) (st : State) (s : List ℤ) (a : Answer) (h : paper a ≡ standsOf t st s) where
   -- ---- the test accepts
 
   module _ (e : a ≡ Done) where
-    accepts : standing t st s ≡ accepted
+    accepts : standsOf t st s ≡ accepted
     accepts = sym h ∙ ap paper e
 
     pub stands-of-done : Stands t st s
     stands-of-done = let p = both-stand (checkOf t) (good (viewSheet t) st s) accepts in record { sheet = p .0; numbers = p .1 }
 
-    pub fire-done : (q : ℕ) → fireOf t st s q ≡ saved st s (fireM (viewSheet t) (decode st s) q)
+    pub fire-done : (q : ℕ) → fireOf t st s q ≡ fireKnown t st s q
     unfolding fireOf
     fire-done q = rw accepts
 
-    pub feed-done : (q : ℕ) (x : Item) → feedOf t st s q x ≡ saved st s (feedM (viewSheet t) (decode st s) q x)
+    pub feed-done : (q : ℕ) (x : Item) → feedOf t st s q x ≡ feedKnown t st s q x
     unfolding feedOf
     feed-done q x = rw accepts
 
-    pub take-done : (q : ℕ) → takeOf t st s q ≡ savedTake st s (takeM (viewSheet t) (decode st s) q)
+    pub take-done : (q : ℕ) → takeOf t st s q ≡ takeKnown t st s q
     unfolding takeOf
     take-done q = rw accepts
 
-    pub run-done : (qs : List ℕ) → runOf t st s qs ≡ savedRun (runM (viewSheet t) qs (decode st s))
+    pub run-done : (qs : List ℕ) → runOf t st s qs ≡ runKnown t st s qs
     unfolding runOf
     run-done qs = rw accepts
 
-    pub ready-done : readyOf t st s ≡ readyCall accepted (readySet (viewSheet t) (decode st s))
+    pub ready-done : readyOf t st s ≡ readyCall accepted (readyKnown t st s)
     unfolding readyOf
     ready-done = rw accepts
 
     -- what the inner function answers is what the call has to
     module _ (r : Answer) (u : State) (v : List ℤ) where
-      pub fire-answers : (q : ℕ) → Answers (saved st s (fireM (viewSheet t) (decode st s) q)) r u v → Answers (fireOf t st s q) r u v
+      pub fire-answers : (q : ℕ) → Answers (fireKnown t st s q) r u v → Answers (fireOf t st s q) r u v
       fire-answers q k = subst (λ (c : Call). Answers c r u v) (sym (fire-done q)) k
 
-      pub feed-answers : (q : ℕ) (x : Item) → Answers (saved st s (feedM (viewSheet t) (decode st s) q x)) r u v → Answers (feedOf t st s q x) r u v
+      pub feed-answers : (q : ℕ) (x : Item) → Answers (feedKnown t st s q x) r u v → Answers (feedOf t st s q x) r u v
       feed-answers q x k = subst (λ (c : Call). Answers c r u v) (sym (feed-done q x)) k
 
-      pub take-answers : (q : ℕ) (x : Item) → TakeAnswers (savedTake st s (takeM (viewSheet t) (decode st s) q)) r x u v →
-          TakeAnswers (takeOf t st s q) r x u v
+      pub take-answers : (q : ℕ) (x : Item) → TakeAnswers (takeKnown t st s q) r x u v → TakeAnswers (takeOf t st s q) r x u v
       take-answers q x k = subst (λ (c : TakeCall). TakeAnswers c r x u v) (sym (take-done q)) k
 
-      pub run-answers : (qs : List ℕ) (m n : ℕ) → RunAnswers (savedRun (runM (viewSheet t) qs (decode st s))) r m n u v →
-          RunAnswers (runOf t st s qs) r m n u v
+      pub run-answers : (qs : List ℕ) (m n : ℕ) → RunAnswers (runKnown t st s qs) r m n u v → RunAnswers (runOf t st s qs) r m n u v
       run-answers qs m n k = subst (λ (c : RunCall). RunAnswers c r m n u v) (sym (run-done qs)) k
 
-    pub ready-answers : (n : ℕ) (r : ReadySet) → n ≡ readySet (viewSheet t) (decode st s) →
+    pub ready-answers : (n : ℕ) (r : ReadySet) → n ≡ readyKnown t st s →
         (r .answer ≡ Done) × (r .set ≡ n) × (r .count ≡ ones n) × (r .lowest ≡ trailingZeros SET n) → ReadyAnswers (readyOf t st s) r
     ready-answers n r k d = set-answers (readyOf t st s) Done n r (ready-done ∙ ap (λ (m : ℕ). readyCall accepted m) (sym k)) d
 
   -- ---- the test refuses
 
   module _ (x : Answer) (e : a ≡ x) (f : isAccepted (paper x) ≡ false) where
-    refuses : standing t st s ≡ paper x
+    refuses : standsOf t st s ≡ paper x
     refuses = sym h ∙ ap paper e
 
     pub fire-refuses : (q : ℕ) → Answers (fireOf t st s q) x st s
     unfolding fireOf
-    fire-refuses q = refused-answers (fireOf t st s q) x st s (rw (refuses, f))
+    fire-refuses q = unchanged-answers (fireOf t st s q) x st s (rw (refuses, f))
 
     pub feed-refuses : (q : ℕ) (y : Item) → Answers (feedOf t st s q y) x st s
     unfolding feedOf
-    feed-refuses q y = refused-answers (feedOf t st s q y) x st s (rw (refuses, f))
+    feed-refuses q y = unchanged-answers (feedOf t st s q y) x st s (rw (refuses, f))
 
-    take-refused : (q : ℕ) → takeOf t st s q ≡ record { call = refusing (paper x) st s; item = noItem }
+    take-refused : (q : ℕ) → takeOf t st s q ≡ record { call = unchanged (paper x) st s; item = noItem }
     unfolding takeOf
     take-refused q = rw (refuses, f)
 
-    pub take-refuses : (q : ℕ) (r : Taken) → (r .answer ≡ x) × (r .item ≡ noItem) × (r .state ≡ st) →
+    pub take-refuses : (q : ℕ) (r : TakenItem) → (r .answer ≡ x) × (r .item ≡ noItem) × (r .state ≡ st) →
         TakeAnswers (takeOf t st s q) (r .answer) (r .item) (r .state) s
-    take-refuses q r d =
-        let k = take-refused q in
-        record {
-          call =
-              record {
-                answered = ap paper (d .0) ∙ sym (ap (λ (c : TakeCall). c .call .answer) k);
-                stated = d .2 ∙ sym (ap (λ (c : TakeCall). c .call .state) k);
-                stored = sym (ap (λ (c : TakeCall). c .call .store) k);
-              };
-          taken = d .1 ∙ sym (ap (λ (c : TakeCall). c .item) k);
-        }
+    take-refuses q r d = no-take-answers (takeOf t st s q) x st s r (take-refused q) d
 
-    run-refused : (qs : List ℕ) → runOf t st s qs ≡ record { call = refusing (paper x) st s; fired = 0; skipped = 0 }
+    run-refused : (qs : List ℕ) → runOf t st s qs ≡ record { call = unchanged (paper x) st s; fired = 0; skipped = 0 }
     unfolding runOf
     run-refused qs = rw (refuses, f)
 
@@ -135,7 +124,7 @@ module _ (t : Sheet) (st : State) (s : List ℤ) (a : Answer) (h : paper a ≡ s
     run-refuses qs =
         let k = run-refused qs in
         record {
-          call = refused-answers (runOf t st s qs .call) x st s (ap (λ (c : RunCall). c .call) k);
+          call = unchanged-answers (runOf t st s qs .call) x st s (ap (λ (c : RunCall). c .call) k);
           firings = sym (ap (λ (c : RunCall). c .fired) k);
           skips = sym (ap (λ (c : RunCall). c .skipped) k);
         }

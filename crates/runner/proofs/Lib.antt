@@ -1,2 +1,4 @@
 pub mod Calling
 pub mod Rest
+pub mod Asking
+pub mod OneOutcome

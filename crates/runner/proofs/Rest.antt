@@ -1,7 +1,7 @@
 -- At rest: where sheet and numbers stand, the ready set is 0 exactly if `fire` refuses every queue number.
 -- Assumes nothing.
-use mathlib.Core.Path.{_≡_, refl, sym, ap, _∙_}
-use mathlib.Core.Bool.{Bool, true, false}
+use mathlib.Core.Path.{_≡_, refl, sym, _∙_}
+use mathlib.Core.Bool.{false}
 use mathlib.Core.List.{List}
 use Prim.Native.Nat.{ℕ}
 use native.Mathlib.Omega.{arith}
@@ -16,8 +16,8 @@ use Rattle.machine.specs.Ready.{accepts, readySet}
 use Rattle.machine.specs.Numbers.{decode}
 use Rattle.machine.specs.Calls.{saved, fireOf, readyOf}
 use Rattle.machine.specs.Working.{Stands}
+use Rattle.machine.proofs.Found.{reads-in-table}
 use Rattle.machine.proofs.ReadyLaws.{ready-rest, rest-ready}
-use Rattle.calls.proofs.Taking.{reads-in-table}
 
 saved-accepted : (st : State) (s : List ℤ) (o : Outcome) → isAccepted (saved st s o .answer) ≡ accepts o
 saved-accepted st s (refuse k) = refl
@@ -35,7 +35,7 @@ module _ (t : Sheet) (st : State) (s : List ℤ) (h : Stands t st s) where
   pub rest-refuses-all : readyOf t st s .set ≡ 0 → (q : ℕ) → isAccepted (fireOf t st s q .answer) ≡ false
   rest-refuses-all z q =
       fire-accepted q
-      ∙ ready-rest (viewSheet t) (decode st s) (double 0 0 0) (sym set-is ∙ z) (λ i p l m. omega (arith, reads-in-table t (h .sheet) i p l m)) q
+      ∙ ready-rest (viewSheet t) (decode st s) (double 0 0 0) (sym set-is ∙ z) (λ i p l m. omega (arith, reads-in-table t (h .sheet) (double 0 0 0) i p l m)) q
 
   pub all-refused-rests : ((q : ℕ) → isAccepted (fireOf t st s q .answer) ≡ false) → readyOf t st s .set ≡ 0
   all-refused-rests r = set-is ∙ rest-ready (viewSheet t) (decode st s) (λ q. sym (fire-accepted q) ∙ r q)

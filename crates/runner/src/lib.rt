@@ -1,40 +1,31 @@
 // The runner: fresh, feed, take, fire, run and the ready set, on any sheet, state and store.
-use machine::Fired;
-use machine::Ran;
+use machine::Called;
 use machine::ReadySet;
+use machine::RunEnd;
 use machine::State;
-use machine::Taken;
-use operator::Operator;
+use machine::TakenItem;
 use sheet::Answer;
 use sheet::Sheet;
 use store::Item;
 ghost use mathlib.Core.Path.{_≡_};
-ghost use mathlib.Core.Bool.{true};
-ghost use Prim.Native.Nat.{_≤_};
 ghost use lib.Count.{ones, trailingZeros};
-ghost use Rattle.lists.specs.Lists.{bit};
-ghost use Rattle.operator.specs.Memory.{view};
-ghost use Rattle.sheet.specs.Answer.{paper, accepted, isAccepted};
-ghost use Rattle.sheet.specs.Sheet.{viewSheet};
-ghost use Rattle.sheet.specs.Check.{checkOf};
-ghost use Rattle.machine.specs.Machine.{fireM, feedM, takeM, runM, isOutput};
-ghost use Rattle.machine.specs.Ready.{accepts, readySet};
-ghost use Rattle.machine.specs.Numbers.{decode};
-ghost use Rattle.machine.specs.Calls.{saved, savedTake, savedRun, fireOf, feedOf, takeOf, runOf, readyOf, freshOf, noItem};
-ghost use Rattle.machine.specs.Working.{Stands, Fit, fireFound, Answers, TakeAnswers, RunAnswers, ReadyAnswers};
+ghost use Rattle.machine.specs.Ready.{SET};
+ghost use Rattle.machine.specs.Calls.{fireOf, feedOf, takeOf, runOf, readyOf, freshOf};
+ghost use Rattle.machine.specs.Answers.{Answers, TakeAnswers, RunAnswers, ReadyAnswers};
+ghost use Rattle.machine.specs.Readers.{readerOf, ReaderAnswers};
 
 // Fires the operator that reads queue q.
-pub fn fire(t: Sheet, state: State, store: &mut [i32], q: u8) -> Fired
+pub fn fire(t: Sheet, state: State, store: &mut [i32], q: u8) -> Called
     ensures { λ r. ⌜ Answers (fireOf t state (now (store .entry)) q) (r .answer) (r .state) (now (store .exit)) ⌝ }
 {
     let a = standing::stands(t, state, &*store);
     match a {
         Answer::Done => calls::fire_known(t, q, state, &mut *store),
-        Answer::RefusedAt { number, spot } => Fired {
+        Answer::RefusedAt { number, spot } => Called {
             answer: Answer::RefusedAt { number, spot },
             state,
         },
-        Answer::Refused { number } => Fired {
+        Answer::Refused { number } => Called {
             answer: Answer::Refused { number },
             state,
         },
@@ -42,17 +33,17 @@ pub fn fire(t: Sheet, state: State, store: &mut [i32], q: u8) -> Fired
 }
 
 // Puts an item on an input.
-pub fn feed(t: Sheet, state: State, store: &mut [i32], q: u8, x: Item) -> Fired
+pub fn feed(t: Sheet, state: State, store: &mut [i32], q: u8, x: Item) -> Called
     ensures { λ r. ⌜ Answers (feedOf t state (now (store .entry)) q x) (r .answer) (r .state) (now (store .exit)) ⌝ }
 {
     let a = standing::stands(t, state, &*store);
     match a {
         Answer::Done => calls::feed_known(t, q, x, state, &mut *store),
-        Answer::RefusedAt { number, spot } => Fired {
+        Answer::RefusedAt { number, spot } => Called {
             answer: Answer::RefusedAt { number, spot },
             state,
         },
-        Answer::Refused { number } => Fired {
+        Answer::Refused { number } => Called {
             answer: Answer::Refused { number },
             state,
         },
@@ -60,7 +51,7 @@ pub fn feed(t: Sheet, state: State, store: &mut [i32], q: u8, x: Item) -> Fired
 }
 
 // Removes an output's oldest item and answers it.
-pub fn take(t: Sheet, state: State, store: &mut [i32], q: u8) -> Taken
+pub fn take(t: Sheet, state: State, store: &mut [i32], q: u8) -> TakenItem
     ensures { λ r. ⌜ TakeAnswers (takeOf t state (now (store .entry)) q) (r .answer) (r .item) (r .state) (now (store .exit)) ⌝ }
 {
     let a = standing::stands(t, state, &*store);
@@ -75,19 +66,20 @@ pub fn take(t: Sheet, state: State, store: &mut [i32], q: u8) -> Taken
 }
 
 // Fires each queue of a list in turn and skips those refused.
-pub fn run(t: Sheet, state: State, store: &mut [i32], list: &[u8]) -> Ran
-    ensures { λ r. ⌜ RunAnswers (runOf t state (now (store .entry)) (now (list .entry))) (r .answer) (r .fired) (r .skipped) (r .state) (now (store .exit)) ⌝ }
+pub fn run(t: Sheet, state: State, store: &mut [i32], list: &[u8]) -> RunEnd
+    ensures { λ r. ⌜ RunAnswers (runOf t state (now (store .entry)) (now (list .entry)))
+        (r .answer) (r .fired) (r .skipped) (r .state) (now (store .exit)) ⌝ }
 {
     let a = standing::stands(t, state, &*store);
     match a {
         Answer::Done => calls::run_known(t, state, &mut *store, list),
-        Answer::RefusedAt { number, spot } => Ran {
+        Answer::RefusedAt { number, spot } => RunEnd {
             answer: Answer::RefusedAt { number, spot },
             fired: 0,
             skipped: 0,
             state,
         },
-        Answer::Refused { number } => Ran {
+        Answer::Refused { number } => RunEnd {
             answer: Answer::Refused { number },
             fired: 0,
             skipped: 0,
@@ -97,7 +89,7 @@ pub fn run(t: Sheet, state: State, store: &mut [i32], list: &[u8]) -> Ran
 }
 
 fn ready_answer(answer: Answer, set: u32) -> ReadySet
-    ensures { λ r. ⌜ (r .answer ≡ answer) × (r .set ≡ set) × (r .count ≡ ones set) × (r .lowest ≡ trailingZeros 32 set) ⌝ }
+    ensures { λ r. ⌜ (r .answer ≡ answer) × (r .set ≡ set) × (r .count ≡ ones set) × (r .lowest ≡ trailingZeros SET set) ⌝ }
 {
     ReadySet {
         answer,
@@ -114,7 +106,7 @@ pub fn ready(t: Sheet, state: State, store: &[i32]) -> ReadySet
     let a = standing::stands(t, state, store);
     match a {
         Answer::Done => {
-            let set = calls::ready_known(t, state, store);
+            let set = run_ready::ready_known(t, state, store);
             ready_answer(Answer::Done, set)
         }
         Answer::RefusedAt { number, spot } => ready_answer(Answer::RefusedAt { number, spot }, 0),
@@ -123,18 +115,55 @@ pub fn ready(t: Sheet, state: State, store: &[i32]) -> ReadySet
 }
 
 // Zeroes state and store, whatever stood there; refuses only a wrong store length.
-pub fn fresh(state: State, store: &mut [i32]) -> Fired
+pub fn fresh(state: State, store: &mut [i32]) -> Called
     ensures { λ r. ⌜ Answers (freshOf state (now (store .entry))) (r .answer) (r .state) (now (store .exit)) ⌝ }
 {
     if store.len() != machine::STORE {
         return machine::no(8, state);
     }
     store::clear(&mut *store);
-    Fired {
+    Called {
         answer: Answer::Done,
         state: State {
             counts: [0; machine::QUEUES],
             vars: [0; machine::VARIABLES],
+        },
+    }
+}
+
+// The place of the operator that reads a queue; OPERATORS on a refusal.
+pub struct Reader {
+    pub answer: Answer,
+    pub place: usize,
+}
+
+// The operator that reads queue q: 9 where none does, also where q is no queue.
+pub fn reader_of(t: Sheet, q: u8) -> Reader
+    ensures { λ r. ⌜ ReaderAnswers (readerOf t q) (r .answer) (r .place) ⌝ }
+{
+    let a = sheet::check(t);
+    match a {
+        Answer::Done => {
+            let readers = reader::readers(t);
+            let place = reader::reader_at(readers, q);
+            if place < sheet::OPERATORS {
+                return Reader {
+                    answer: Answer::Done,
+                    place,
+                };
+            }
+            Reader {
+                answer: Answer::Refused { number: 9 },
+                place: sheet::OPERATORS,
+            }
+        }
+        Answer::RefusedAt { number, spot } => Reader {
+            answer: Answer::RefusedAt { number, spot },
+            place: sheet::OPERATORS,
+        },
+        Answer::Refused { number } => Reader {
+            answer: Answer::Refused { number },
+            place: sheet::OPERATORS,
         },
     }
 }

@@ -13,7 +13,8 @@ use Rattle.lists.proofs.Build.{order, build-length}
 use Rattle.lists.proofs.Tests.{all-build, all-build-of}
 use Rattle.operator.specs.Memory.{view, memoryNumber, vacant}
 use Rattle.judge.specs.Judge.{known, judge, whole}
-use Rattle.format.specs.Head.{OPERATORS, headGood}
+use Rattle.format.specs.Head.{headGood}
+use Rattle.bounds.specs.Bounds.{OPERATORS}
 use Rattle.format.proofs.Heads.{HeadRanges, ranges-of-good}
 use Rattle.sheet.specs.declared.Sheet.{Sheet}
 use Rattle.sheet.specs.Answer.{accepted, refusedAt, refused}

@@ -14,7 +14,7 @@ use Rattle.operator.specs.declared.Operator.{Operator}
 use Rattle.operator.specs.Memory.{view, memory, noOperator}
 use Rattle.operator.proofs.ViewLaws.{memory-view, vacant-is}
 use Rattle.operator.proofs.Held.{Owned, held-all}
-use Rattle.format.specs.Head.{OPERATORS}
+use Rattle.bounds.specs.Bounds.{OPERATORS}
 use Rattle.sheet.specs.declared.Sheet.{Sheet}
 use Rattle.sheet.specs.Answer.{accepted}
 use Rattle.sheet.specs.Sheet.{missing, opAt, viewSheet, memorySheet, HeldSheet}

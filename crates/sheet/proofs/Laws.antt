@@ -12,7 +12,7 @@ use borrow.Author.Tests.{ltb-true}
 use Rattle.lists.specs.Lists.{build, any, member, chain, times}
 use Rattle.lists.proofs.Build.{order, never}
 use Rattle.lists.proofs.Tests.{or-cases, all-build, member-append, member-chain, any-build, any-build-none}
-use Rattle.lists.proofs.Times.{member-times, times-member, once-more, times-below}
+use Rattle.lists.proofs.Times.{times-member, once-more, times-below}
 use Rattle.lists.proofs.Chains.{chain-snoc}
 use Rattle.lists.proofs.Members.{member-below}
 use Rattle.operator.specs.Op.{Op, Abstract, reads, defines, names, cursors}
@@ -20,8 +20,7 @@ use Rattle.operator.specs.Memory.{view, tidy, vacant, noOperator, Held}
 use Rattle.operator.proofs.ViewLaws.{tidy-of-number, vacant-is}
 use Rattle.judge.specs.Judge.{known, four, five, six, whole}
 use Rattle.judge.proofs.JudgedLaws.{judged-four, judged-five, judged-six}
-use Rattle.format.specs.Head.{OPERATORS}
-use Rattle.format.proofs.Heads.{ranges-of-good}
+use Rattle.bounds.specs.Bounds.{OPERATORS}
 use Rattle.sheet.specs.declared.Sheet.{Sheet}
 use Rattle.sheet.specs.Answer.{accepted}
 use Rattle.sheet.specs.Sheet.{opAt, viewTo, viewSheet}
@@ -95,16 +94,6 @@ module _ (t : Sheet) (h : checkOf t ≡ accepted) where
   defined-where i q d =
       ⊎-map (ltb-true q (t .inputs)) (any-build (λ (o : Op). member q (defines o)) i (λ (k : ℕ). view (opAt t k)))
       (or-cases (ltb q (t .inputs)) (any (λ (o : Op). member q (defines o)) (viewTo t i .ops)) d)
-
-  pub defined-below : (q : ℕ) → t .queues ≤ q → times q (definedBy (viewSheet t)) ≡ 0
-  defined-below q l = member-times q (definedBy (viewSheet t)) (none (member q (definedBy (viewSheet t))) refl)
-    where
-      none : (b : Bool) → member q (definedBy (viewSheet t)) ≡ b → b ≡ false
-      none false e = refl
-      none true e =
-          ⊎-elim (λ (a : q < t .inputs). absurd (omega (arith, ranges-of-good (t .inputs) (t .queues) (t .variables) (t .count) (good .head))))
-          (λ r. absurd (omega (arith, define-below (r .0) q (r .1 .0) (r .1 .1))))
-          (defined-where (t .count) q (known-defined (viewSheet t) q ∙ e))
 
   -- a queue is read at most once, and only where an input or an operator before defines it
   read-to : (i q : ℕ) → i ≤ t .count → times q (readBy (viewTo t i)) ≤ 1

@@ -16,7 +16,8 @@ use Rattle.operator.specs.declared.Operator.{Operator}
 use Rattle.operator.specs.Memory.{view, memory, memoryNumber, vacant, noOperator}
 use Rattle.operator.proofs.ViewLaws.{Small, view-memory, number-memory, vacant-no-operator}
 use Rattle.judge.specs.Judge.{known, judge, whole}
-use Rattle.format.specs.Head.{OPERATORS, headGood}
+use Rattle.format.specs.Head.{headGood}
+use Rattle.bounds.specs.Bounds.{OPERATORS}
 use Rattle.sheet.specs.declared.Sheet.{Sheet}
 use Rattle.sheet.specs.Sheet.{missing, opAt, viewTo, viewSheet, memorySheet}
 use Rattle.sheet.proofs.Accepted.{Accepted}

@@ -1,6 +1,5 @@
 -- What judging the operators in memory answers, against the definition.
 use mathlib.Core.Path.{_≡_}
-use Prim.Native.Nat.{ℕ}
 use mathlib.Core.List.{[]}
 use Rattle.judge.specs.Judge.{known}
 use Rattle.judge.specs.Seen.{knownBy}

@@ -1,14 +1,14 @@
 -- A sheet in memory, the sheet that it stands for, and back.
 use mathlib.Core.Path.{_≡_}
 use Prim.Native.Nat.{ℕ, _<_}
-use mathlib.Core.List.{List, [], map}
+use mathlib.Core.List.{[], map}
 use lib.ListN.{length, getD}
 use Rattle.lists.specs.Lists.{build, pad}
-use Rattle.operator.specs.Op.{Op, Abstract}
+use Rattle.operator.specs.Op.{Abstract}
 use Rattle.operator.specs.Memory.{view, memory, noOperator, Held}
 use Rattle.operator.specs.declared.Kind.the-variants.{Empty}
 use Rattle.operator.specs.declared.Operator.{Operator}
-use Rattle.format.specs.Head.{OPERATORS}
+use Rattle.bounds.specs.Bounds.{OPERATORS}
 use Rattle.sheet.specs.declared.Sheet.{Sheet}
 
 -- the operator at a place (past the end of the array, where nothing reads, one with no places)

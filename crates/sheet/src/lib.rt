@@ -11,7 +11,7 @@ ghost use Rattle.sheet.specs.Sheet.{noSheet};
 ghost use Rattle.sheet.specs.Check.{vacantFrom, checkOf};
 ghost use Rattle.sheet.specs.Judges.{Judges};
 
-pub const OPERATORS: usize = 16;
+pub const OPERATORS: usize = bounds::OPERATORS as usize;
 
 pub struct Sheet {
     pub inputs: u8,

@@ -10,10 +10,10 @@ ghost use Rattle.lists.specs.Lists.{all};
 ghost use Rattle.sheet.specs.Answer.{paper, accepted};
 ghost use Rattle.sheet.specs.Sheet.{viewSheet};
 ghost use Rattle.sheet.specs.Check.{checkOf};
-ghost use Rattle.store.specs.Store.{QUEUES};
+ghost use Rattle.bounds.specs.Bounds.{QUEUES};
 ghost use Rattle.effect.specs.Effect.{cursorGood};
 ghost use Rattle.machine.specs.Numbers.{good};
-ghost use Rattle.machine.specs.Calls.{standing};
+ghost use Rattle.machine.specs.Calls.{standsOf};
 
 fn none_from(counts: [u8; machine::QUEUES], from: usize) -> bool
     requires { ⌜ from ≤ QUEUES ⌝ }
@@ -69,7 +69,7 @@ fn is_good(t: Sheet, state: State, store: &[i32]) -> bool
 
 // The sheet's own refusal, then 8.
 pub fn stands(t: Sheet, state: State, store: &[i32]) -> Answer
-    ensures { λ r. ⌜ paper r ≡ standing t state (now (store .entry)) ⌝ }
+    ensures { λ r. ⌜ paper r ≡ standsOf t state (now (store .entry)) ⌝ }
 {
     let a = sheet::check(t);
     match a {

@@ -4,14 +4,13 @@ use mathlib.Core.Bool.{true}
 use mathlib.Core.List.{List, [], _∷_, _++_}
 use Prim.Native.Nat.{ℕ, _+_, _<_, _≤_}
 use native.Mathlib.Omega.{arith}
-use lib.Dec.{lit<}
 use lib.ListN.{length, getD, take, drop, length-drop}
-use lib.Seq.{getD-drop, getD-take, take-add}
+use lib.Seq.{getD-drop, take-add}
 use mir.Syntax.{w32}
 use mir.Val.{Fits, SFits, ofZ}
-use mir.Facts.{toZ-ofZ, ofZ-toZ, fits-ofZ, sfits-toZ}
+use mir.Facts.{toZ-ofZ, ofZ-toZ, fits-ofZ}
 use Rattle.number.specs.Number.{bitsOf, bitsBytes, intOf, intBytes}
-use Rattle.number.proofs.Bytes.{bits-of-bytes, bytes-of-bits, bits-below, bits-same}
+use Rattle.number.proofs.Bytes.{bits-of-bytes, bytes-of-bits, bits-below}
 use Rattle.step.specs.Step.{knownFunc, stepOf, stepBytes}
 use Rattle.step.specs.declared.Step.{Step}
 use Rattle.step.proofs.Rows.{func-code, code-func}
@@ -27,24 +26,9 @@ step-of-bytes t rest hl hh =
     let high = bits-of-bytes (ofZ w32 (t .high)) (fits-ofZ hh .fits) rest in
     simp (func-code, low, high, toZ-ofZ hl, toZ-ofZ hh)
 
--- `stepOf` looks at twelve bytes only
-pub step-same : (s r : List ℕ) → ((k : ℕ) → k < 12 → getD s k 0 ≡ getD r k 0) → stepOf s ≡ stepOf r
-unfolding stepOf
-step-same s r h =
-    let low = bits-same (drop 4 s) (drop 4 r) (λ k l. rw (getD-drop 4 s, getD-drop 4 r) (h (4 + k) (omega arith))) in
-    let high = bits-same (drop 8 s) (drop 8 r) (λ k l. rw (getD-drop 8 s, getD-drop 8 r) (h (8 + k) (omega arith))) in
-    rw (h 0 (lit< tt), h 1 (lit< tt), h 2 (lit< tt), h 3 (lit< tt), low, high)
-
-pub step-of-take : (s : List ℕ) (n : ℕ) → 12 ≤ n → stepOf (take n s) ≡ stepOf s
-step-of-take s n h = step-same (take n s) s (λ k l. getD-take n s k 0 (omega arith))
-
 -- bytes from m on, where every one is below 256
 part-fits : (m : ℕ) (s : List ℕ) → ((k : ℕ) → getD s k 0 < 256) → Fits w32 (bitsOf (drop m s))
 part-fits m s h = record { fits = bits-below (drop m s) (λ k. rw (getD-drop m s k 0) (h (m + k))) }
-
-pub step-fits : (s : List ℕ) → ((k : ℕ) → getD s k 0 < 256) → SFits w32 (stepOf s .low) × SFits w32 (stepOf s .high)
-unfolding stepOf
-step-fits s h = (sfits-toZ (part-fits 4 s h), sfits-toZ (part-fits 8 s h))
 
 part-back : (m : ℕ) (s : List ℕ) → m + 4 ≤ length s → ((k : ℕ) → getD s k 0 < 256) → intBytes (intOf (drop m s)) ≡ take 4 (drop m s)
 part-back m s l h =

@@ -7,7 +7,7 @@ use lib.Dec.{eqb, lit<}
 use lib.ListN.{getD}
 use borrow.Author.Tests.{eqb-true}
 use Rattle.lists.proofs.Tables.{every-at}
-use Rattle.step.specs.Step.{codeOf, funcOf, rowOf, knownFunc}
+use Rattle.step.specs.Step.{codeOf, funcOf, rowOf, placesTaken, knownFunc}
 use Rattle.step.specs.declared.Func.{Func}
 use Rattle.step.specs.declared.Func.the-variants.{None, Keep, Add, Copy, Count, Stamp}
 use Rattle.step.specs.declared.Row.{Row}
@@ -77,8 +77,18 @@ unfolding funcOf
 table-right f d =
     same-row _ _ (every-at (λ (k : ℕ) (w : Row). sameRow w (rowOf (funcOf k))) d table refl (codeOf f) (code-below f)) ∙ ap rowOf (func-code f)
 
+-- the arity says again what the other columns say: a known function's is how many places its row takes, None's is 0
+pub arity-counts-places : (f : Func) → rowOf f .arity ≡ cond (knownFunc f) (placesTaken (rowOf f)) 0
+arity-counts-places None = refl
+arity-counts-places Keep = refl
+arity-counts-places Add = refl
+arity-counts-places Copy = refl
+arity-counts-places Count = refl
+arity-counts-places Stamp = refl
+
 -- one case of `funcOf`
-code-by : (b : Bool) (n : ℕ) (f g : Func) → (b ≡ true → codeOf f ≡ n) → (knownFunc g ≡ true → codeOf g ≡ n) → knownFunc (cond b f g) ≡ true → codeOf (cond b f g) ≡ n
+code-by : (b : Bool) (n : ℕ) (f g : Func) → (b ≡ true → codeOf f ≡ n) → (knownFunc g ≡ true → codeOf g ≡ n) →
+    knownFunc (cond b f g) ≡ true → codeOf (cond b f g) ≡ n
 code-by true n f g e h k = e refl
 code-by false n f g e h k = h k
 

@@ -5,18 +5,15 @@ use mathlib.Core.List.{List, [], _∷_, _++_}
 use lib.Dec.{eqb, ltb}
 use lib.ListN.{getD, drop}
 use lib.IntN.{ℤ, pos}
-use mir.Syntax.{w32}
-use mir.Val.{ofZ}
-use Rattle.number.specs.Number.{intOf, intBytes}
+use Rattle.number.specs.Number.{intOf, intBytes, isZero}
+use Rattle.lists.specs.Lists.{bit}
 use Rattle.step.specs.declared.Func.{Func}
 use Rattle.step.specs.declared.Func.the-variants.{None, Keep, Add, Copy, Count, Stamp}
 use Rattle.step.specs.declared.Row.{Row}
 use Rattle.step.specs.declared.Step.{Step}
+use Rattle.bounds.specs.Bounds.{FIELDS}
 
--- an item's fields, and the variable that stands for none
-abbrev pub FIELDS : ℕ
-FIELDS = 4
-
+-- the variable that stands for none
 abbrev pub NO_VARIABLE : ℕ
 NO_VARIABLE = 255
 
@@ -41,6 +38,10 @@ rowOf Copy = record { arity = 2; variable = false; r = true; low = false; high =
 rowOf Count = record { arity = 2; variable = true; r = false; low = false; high = false; reads = 0; writes = 1 }
 rowOf Stamp = record { arity = 2; variable = true; r = false; low = false; high = false; reads = 0; writes = 1 }
 
+-- how many places a row takes: p, and those of variable, r, low and high that it marks
+abbrev pub placesTaken : Row → ℕ
+placesTaken w = 1 + (bit (w .variable) + (bit (w .r) + (bit (w .low) + bit (w .high))))
+
 abbrev pub knownFunc : Func → Bool
 knownFunc None = false
 knownFunc Keep = true
@@ -58,13 +59,9 @@ unfoldable pub stepVariable : ℕ → Step → Bool
 stepVariable v t =
     cond (knownFunc (t .func)) (cond (rowOf (t .func) .variable) (ltb (t .variable) v) (eqb (t .variable) NO_VARIABLE)) true
 
--- a number that is 0, by its bits
-abbrev pub zeroZ : ℤ → Bool
-zeroZ z = eqb (ofZ w32 z) 0
-
 -- a place that is not taken holds 0
 unfoldable pub unusedZ : Bool → ℤ → Bool
-unusedZ taken z = cond taken true (zeroZ z)
+unusedZ taken z = cond taken true (isZero z)
 
 unfoldable pub fieldPlace : Bool → ℕ → Bool
 fieldPlace taken f = cond taken (ltb f FIELDS) (eqb f 0)
@@ -81,7 +78,7 @@ noStep = record { func = None; variable = 0; p = 0; r = 0; low = pos 0; high = p
 
 unfoldable pub blank : Step → Bool
 blank t =
-    eqb (codeOf (t .func)) 0 && (eqb (t .variable) 0 && (eqb (t .p) 0 && (eqb (t .r) 0 && (zeroZ (t .low) && zeroZ (t .high)))))
+    eqb (codeOf (t .func)) 0 && (eqb (t .variable) 0 && (eqb (t .p) 0 && (eqb (t .r) 0 && (isZero (t .low) && isZero (t .high)))))
 
 -- the bytes of a step, and the step that the first twelve bytes of a list hold, whatever they are
 abbrev pub STEP_BYTES : ℕ

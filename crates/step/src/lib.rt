@@ -3,9 +3,7 @@ ghost use mathlib.Core.Path.{_≡_};
 ghost use Prim.Native.Nat.{_+_, _≤_};
 ghost use lib.ListN.{length, drop};
 ghost use lib.Seq.{sets};
-ghost use Rattle.step.specs.Step.{codeOf, funcOf, rowOf, knownFunc, stepVariable, unusedZ, fieldPlace, stepPlaces, noStep, blank, stepBytes, stepOf};
-
-pub const FIELDS: u8 = 4;
+ghost use Rattle.step.specs.Step.{codeOf, funcOf, rowOf, knownFunc, stepVariable, unusedZ, fieldPlace, stepPlaces, blank, STEP_BYTES, stepBytes, stepOf};
 
 pub const NO_VARIABLE: u8 = 255;
 
@@ -153,7 +151,7 @@ pub fn row_of(f: Func) -> Row
     TABLE[i]
 }
 
-// The variable is below v where one is taken, and 255 where none is.
+// The variable is below v where one is taken, and NO_VARIABLE where none is.
 pub fn variable_good(t: Step, v: u8) -> bool
     ensures { λ r. ⌜ r ≡ stepVariable v t ⌝ }
 {
@@ -165,20 +163,20 @@ pub fn variable_good(t: Step, v: u8) -> bool
     if w.variable {
         t.variable < v
     } else {
-        t.variable == 255
+        t.variable == NO_VARIABLE
     }
 }
 
 fn field_place(taken: bool, f: u8) -> bool
     ensures { λ r. ⌜ r ≡ fieldPlace taken f ⌝ }
 {
-    if taken { f < FIELDS } else { f == 0 }
+    if taken { f < bounds::FIELDS } else { f == 0 }
 }
 
 fn unused(taken: bool, z: i32) -> bool
     ensures { λ r. ⌜ r ≡ unusedZ taken z ⌝ }
 {
-    if taken { true } else { z == 0 }
+    if taken { true } else { number::is_zero(z) }
 }
 
 // The function is known, its fields are below FIELDS, and what it does not take is 0.
@@ -190,7 +188,7 @@ pub fn places_good(t: Step) -> bool
         return false;
     }
     let w = row_of(f);
-    if FIELDS <= t.p {
+    if bounds::FIELDS <= t.p {
         return false;
     }
     if !field_place(w.r, t.r) {
@@ -219,14 +217,14 @@ pub fn is_blank(t: Step) -> bool
     if t.r != 0 {
         return false;
     }
-    if t.low != 0 {
+    if !number::is_zero(t.low) {
         return false;
     }
-    t.high == 0
+    number::is_zero(t.high)
 }
 
 pub fn step_at(s: &[u8], at: usize) -> Step
-    requires { ⌜ at + 12 ≤ length (now s) ⌝ }
+    requires { ⌜ at + STEP_BYTES ≤ length (now s) ⌝ }
     ensures { λ r. ⌜ r ≡ stepOf (drop at (now (s .entry))) ⌝ }
 {
     let f = func_of(s[at]);
@@ -243,7 +241,7 @@ pub fn step_at(s: &[u8], at: usize) -> Step
 }
 
 pub fn put_step(s: &mut [u8], at: usize, t: Step)
-    requires { ⌜ at + 12 ≤ length (now s) ⌝ }
+    requires { ⌜ at + STEP_BYTES ≤ length (now s) ⌝ }
     ensures { λ _. ⌜ now (s .exit) ≡ sets (now (s .entry)) at (stepBytes t) ⌝ }
 {
     let f = t.func;

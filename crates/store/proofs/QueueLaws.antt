@@ -8,9 +8,10 @@ use lib.ListN.{length, take, drop, replicate, length-append, length-drop, length
 use lib.Seq.{take-at, drop-at, take-add, drop-append-add, length-take-le}
 use lib.IntN.{ℤ, pos}
 use Rattle.lists.specs.Lists.{pad}
-use Rattle.lists.proofs.Pad.{pad-length, pad-full, pad-add, pad-front}
+use Rattle.lists.proofs.Pad.{pad-length, pad-full, pad-add}
 use Rattle.store.specs.declared.Item.{Item}
-use Rattle.store.specs.Store.{FIELDS, ROOM, PART, fields, pushed, taken, firstOf}
+use Rattle.store.specs.Store.{PART, fields, pushed, withoutOldest, firstOf}
+use Rattle.bounds.specs.Bounds.{ROOM, FIELDS}
 use Rattle.store.specs.Queues.{encodeItems, queuePart, itemsOf, Wide}
 
 abbrev zeros : ℕ → List ℤ
@@ -46,12 +47,12 @@ queue-shape xs k e =
 
 -- ---- a take: the oldest item goes
 
-pub taken-queue : (x : Item) (xs : List Item) → length xs < ROOM → taken (queuePart (x ∷ xs)) ≡ queuePart xs
-unfolding taken encodeItems
+pub taken-queue : (x : Item) (xs : List Item) → length xs < ROOM → withoutOldest (queuePart (x ∷ xs)) ≡ queuePart xs
+unfolding withoutOldest encodeItems
 taken-queue x xs h =
     let k : ℕ = PART - FIELDS * suc (length xs) in
     let e : FIELDS * suc (length xs) + k ≡ PART = omega arith in
-    ap taken (queue-shape (x ∷ xs) k e)
+    ap withoutOldest (queue-shape (x ∷ xs) k e)
     ∙ ap (λ (l : List ℤ). l ++ zeros FIELDS)
     (ap (drop FIELDS) (append-assoc (fields x) (encodeItems xs) (zeros k)) ∙ drop-at (fields x) (encodeItems xs ++ zeros k) FIELDS (length-fields x))
     ∙ append-assoc (encodeItems xs) (zeros k) (zeros FIELDS)
@@ -91,14 +92,6 @@ pushed-queue xs x h =
 pub fields-of-wide : (x : Item) → length (x .f) ≡ FIELDS → fields x ≡ x .f
 unfolding fields
 fields-of-wide x w = pad-full FIELDS (pos 0) (x .f) w
-
-pub first-queue : (x : Item) (xs : List Item) → length (x .f) ≡ FIELDS → firstOf (queuePart (x ∷ xs)) ≡ x
-unfolding firstOf queuePart encodeItems
-first-queue x xs w =
-    let e : take FIELDS (queuePart (x ∷ xs)) ≡ fields x =
-    ap (λ (n : ℕ). take n (queuePart (x ∷ xs))) (sym (length-fields x))
-    ∙ pad-front PART (pos 0) (fields x) (encodeItems xs) (omega (arith, length-fields x)) in
-    ap (λ (l : List ℤ). record { f = l }) (e ∙ fields-of-wide x w)
 
 pub items-of-encode : (xs : List Item) (z : List ℤ) → Wide xs → itemsOf (length xs) (encodeItems xs ++ z) ≡ xs
 unfolding itemsOf encodeItems firstOf

@@ -9,24 +9,21 @@ use native.Mathlib.Omega.{arith}
 use lib.Dec.{leb}
 use lib.ListN.{length, drop, replicate, length-drop, take-append-drop, drop-of-length-le}
 use lib.Seq.{drop-at, drop-drop, length-take-le}
-use lib.IntN.{ℤ, pos, negsuc}
+use lib.IntN.{ℤ, pos}
 use borrow.Author.Tests.{leb-true, le-leb}
+use Rattle.number.specs.Number.{isZero}
+use Rattle.number.proofs.Zero.{zero-of-test}
 use Rattle.lists.specs.Lists.{all}
-use Rattle.lists.proofs.Build.{never}
 use Rattle.lists.proofs.Tests.{both}
 use Rattle.store.specs.declared.Item.{Item}
-use Rattle.store.specs.Store.{FIELDS, ROOM, PART, part}
+use Rattle.store.specs.Store.{PART, part}
+use Rattle.bounds.specs.Bounds.{ROOM, FIELDS}
 use Rattle.store.specs.Queues.{encodeItems, queuePart, storeOf, itemsOf, queuesOf, Fit, AllWide}
-use Rattle.store.specs.Quiet.{isZero, zerosFrom, quietQueue, quietFrom}
+use Rattle.store.specs.Quiet.{zerosPast, quietQueue, quietFrom}
 use Rattle.store.proofs.QueueLaws.{length-encode, length-items, queue-shape, wide-items, encode-of-items}
 use Rattle.store.proofs.StoreLaws.{Parts, parts-head, parts-tail, parts-store, fit-tail}
 
 -- ---- a part that passes is that of the items read from it
-
-pub zero-of-test : (z : ℤ) → isZero z ≡ true → z ≡ pos 0
-zero-of-test (pos zero) e = refl
-zero-of-test (pos (suc n)) e = never e
-zero-of-test (negsuc n) e = never e
 
 pub zeros-of-test : (l : List ℤ) → all isZero l ≡ true → l ≡ replicate (length l) (pos 0)
 zeros-of-test [] e = refl
@@ -36,14 +33,14 @@ zeros-of-test (x ∷ l) e =
 
 pub quiet-room : (p : List ℤ) (n : ℕ) → quietQueue p n ≡ true → n ≤ ROOM
 unfolding quietQueue
-quiet-room p n e = leb-true n ROOM (both (leb n ROOM) (zerosFrom p (FIELDS * n)) e .0)
+quiet-room p n e = leb-true n ROOM (both (leb n ROOM) (zerosPast p (FIELDS * n)) e .0)
 
 pub quiet-part : (p : List ℤ) (n : ℕ) → length p ≡ PART → quietQueue p n ≡ true → p ≡ queuePart (itemsOf n p)
 unfolding quietQueue
 quiet-part p n h e =
     let m : n ≤ ROOM = quiet-room p n e in
     let k : ℕ = PART - FIELDS * n in
-    let z = zeros-of-test (drop (FIELDS * n) p) (both (leb n ROOM) (zerosFrom p (FIELDS * n)) e .1) in
+    let z = zeros-of-test (drop (FIELDS * n) p) (both (leb n ROOM) (zerosPast p (FIELDS * n)) e .1) in
     let l : length (drop (FIELDS * n) p) ≡ k = length-drop (FIELDS * n) p ∙ omega arith in
     sym (take-append-drop (FIELDS * n) p)
     ∙ ap₂ (λ (a b : List ℤ). a ++ b) (sym (encode-of-items n p (omega arith))) (z ∙ ap (λ (i : ℕ). replicate i (pos 0)) l)

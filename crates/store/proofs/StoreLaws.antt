@@ -10,9 +10,10 @@ use lib.Seq.{take-at, drop-at, drop-append-add, take-append-add}
 use lib.IntN.{ℤ, pos}
 use Rattle.lists.proofs.Pad.{pad-replicate}
 use Rattle.store.specs.declared.Item.{Item}
-use Rattle.store.specs.Store.{FIELDS, ROOM, PART, part, withPart, pushed, taken, firstOf, pushAt, takeAt}
+use Rattle.store.specs.Store.{PART, part, withPart, pushed, withoutOldest, pushAt, takeAt}
+use Rattle.bounds.specs.Bounds.{ROOM, FIELDS}
 use Rattle.store.specs.Queues.{encodeItems, queuePart, storeOf, itemsOf, queuesOf, Fit, Wide, AllWide}
-use Rattle.store.proofs.QueueLaws.{length-queue, length-items, pushed-queue, taken-queue, first-queue, items-of-queue}
+use Rattle.store.proofs.QueueLaws.{length-queue, length-items, pushed-queue, taken-queue, items-of-queue}
 
 pub length-store : (qs : List (List Item)) → length (storeOf qs) ≡ PART * length qs
 unfolding storeOf
@@ -71,12 +72,8 @@ pub take-store : (qs : List (List Item)) (q : ℕ) (x : Item) (xs : List Item) �
     takeAt (storeOf qs) q ≡ storeOf (set qs q xs)
 unfolding takeAt
 take-store qs q x xs h e l =
-    ap (λ (p : List ℤ). withPart (storeOf qs) q (taken p)) (part-store qs q h ∙ ap queuePart e)
+    ap (λ (p : List ℤ). withPart (storeOf qs) q (withoutOldest p)) (part-store qs q h ∙ ap queuePart e)
     ∙ ap (withPart (storeOf qs) q) (taken-queue x xs l) ∙ put-store qs q xs h
-
-pub first-store : (qs : List (List Item)) (q : ℕ) (x : Item) (xs : List Item) → q < length qs → getD qs q [] ≡ x ∷ xs → length (x .f) ≡ FIELDS →
-    firstOf (part (storeOf qs) q) ≡ x
-first-store qs q x xs h e w = ap firstOf (part-store qs q h ∙ ap queuePart e) ∙ first-queue x xs w
 
 -- ---- the queues read from a store
 

@@ -6,7 +6,8 @@ use lib.ListN.{length, getD, drop}
 use lib.IntN.{ℤ, pos}
 use Rattle.lists.specs.Lists.{pad, chain}
 use Rattle.store.specs.declared.Item.{Item}
-use Rattle.store.specs.Store.{FIELDS, ROOM, PART, part, fields, firstOf}
+use Rattle.store.specs.Store.{PART, part, fields, firstOf}
+use Rattle.bounds.specs.Bounds.{ROOM, FIELDS}
 
 -- the numbers of the items, oldest first
 unfoldable pub encodeItems : List Item → List ℤ

@@ -1,25 +1,22 @@
 -- The test that a queue holds no more than it has room for and that its places past the last item are 0.
-use Prim.Native.Nat.{ℕ, zero, suc, _*_}
-use mathlib.Core.Bool.{Bool, true, false, _&&_}
+use Prim.Native.Nat.{ℕ, suc, _*_}
+use mathlib.Core.Bool.{Bool, true, _&&_}
 use mathlib.Core.List.{List, [], _∷_}
 use lib.ListN.{drop}
 use lib.Dec.{leb}
-use lib.IntN.{ℤ, pos, negsuc}
+use lib.IntN.{ℤ}
+use Rattle.number.specs.Number.{isZero}
 use Rattle.lists.specs.Lists.{all}
-use Rattle.store.specs.Store.{FIELDS, ROOM, part}
-
-abbrev pub isZero : ℤ → Bool
-isZero (pos zero) = true
-isZero (pos (suc n)) = false
-isZero (negsuc n) = false
+use Rattle.store.specs.Store.{part}
+use Rattle.bounds.specs.Bounds.{ROOM, FIELDS}
 
 -- each number from place i on is 0
-abbrev pub zerosFrom : List ℤ → ℕ → Bool
-zerosFrom p i = all isZero (drop i p)
+abbrev pub zerosPast : List ℤ → ℕ → Bool
+zerosPast p i = all isZero (drop i p)
 
 -- a part that holds n items
 unfoldable pub quietQueue : List ℤ → ℕ → Bool
-quietQueue p n = leb n ROOM && zerosFrom p (FIELDS * n)
+quietQueue p n = leb n ROOM && zerosPast p (FIELDS * n)
 
 -- the queues from queue q on, one for each of the counts
 unfoldable pub quietFrom : List ℤ → ℕ → List ℕ → Bool

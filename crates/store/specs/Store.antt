@@ -5,21 +5,11 @@ use lib.ListN.{take, drop, replicate}
 use lib.IntN.{ℤ, pos}
 use Rattle.lists.specs.Lists.{pad}
 use Rattle.store.specs.declared.Item.{Item}
-
--- the numbers of an item
-abbrev pub FIELDS : ℕ
-FIELDS = 4
-
--- the items that a queue has room for
-abbrev pub ROOM : ℕ
-ROOM = 64
+use Rattle.bounds.specs.Bounds.{FIELDS, ROOM, QUEUES}
 
 -- the numbers of a queue's part
 abbrev pub PART : ℕ
 PART = FIELDS * ROOM
-
-abbrev pub QUEUES : ℕ
-QUEUES = 24
 
 -- the numbers of the store
 abbrev pub STORE : ℕ
@@ -41,8 +31,8 @@ unfoldable pub pushed : List ℤ → ℕ → Item → List ℤ
 pushed p n x = take (FIELDS * n) p ++ fields x ++ drop (FIELDS * n + FIELDS) p
 
 -- a part without its oldest item: the rest moves down, and zeros follow
-unfoldable pub taken : List ℤ → List ℤ
-taken p = drop FIELDS p ++ replicate FIELDS (pos 0)
+unfoldable pub withoutOldest : List ℤ → List ℤ
+withoutOldest p = drop FIELDS p ++ replicate FIELDS (pos 0)
 
 -- the oldest item of a part
 unfoldable pub firstOf : List ℤ → Item
@@ -53,4 +43,4 @@ unfoldable pub pushAt : List ℤ → ℕ → ℕ → Item → List ℤ
 pushAt s q n x = withPart s q (pushed (part s q) n x)
 
 unfoldable pub takeAt : List ℤ → ℕ → List ℤ
-takeAt s q = withPart s q (taken (part s q))
+takeAt s q = withPart s q (withoutOldest (part s q))

@@ -1,21 +1,22 @@
 // The lent store of items: queue q has the PART numbers from PART * q on, item i of it stands at FIELDS * i there, oldest first, and zeros follow the last.
 ghost use mathlib.Core.Path.{_≡_};
-ghost use Prim.Native.Nat.{_≤_, _<_};
+ghost use Prim.Native.Nat.{_+_, _*_, _≤_, _<_};
 ghost use lib.ListN.{length, replicate};
 ghost use lib.IntN.{pos};
-ghost use Rattle.store.specs.Store.{ROOM, PART, QUEUES, STORE, part, pushed, taken, firstOf, pushAt, takeAt};
-ghost use Rattle.store.specs.Quiet.{zerosFrom, quietQueue, quietFrom};
+ghost use Rattle.store.specs.Store.{PART, STORE, part, pushed, withoutOldest, firstOf, pushAt, takeAt};
+ghost use Rattle.bounds.specs.Bounds.{ROOM};
+ghost use Rattle.store.specs.Quiet.{zerosPast, quietQueue, quietFrom};
 
 // The numbers of an item.
-pub const FIELDS: usize = 4;
+pub const FIELDS: usize = bounds::FIELDS as usize;
 
 // The items that a queue has room for.
-pub const ROOM: usize = 64;
+pub const ROOM: usize = bounds::ROOM as usize;
 
 // The numbers of a queue's part.
 pub const PART: usize = FIELDS * ROOM;
 
-pub const QUEUES: usize = 24;
+pub const QUEUES: usize = bounds::QUEUES as usize;
 
 // The numbers of the store.
 pub const STORE: usize = QUEUES * PART;
@@ -50,7 +51,7 @@ fn push_part(part: &mut [i32], count: usize, x: Item)
 
 // One more item on queue q, which holds `count`.
 pub fn push(store: &mut [i32], q: usize, count: usize, x: Item)
-    requires { ⌜ (length (now store) ≡ STORE) × (q < QUEUES) × (count < ROOM) ⌝ }
+    requires { ⌜ (PART * q + PART ≤ length (now store)) × (count < ROOM) ⌝ }
     ensures { λ _. ⌜ now (store .exit) ≡ pushAt (now (store .entry)) q count x ⌝ }
 {
     let from = PART * q;
@@ -61,7 +62,7 @@ pub fn push(store: &mut [i32], q: usize, count: usize, x: Item)
 // The part without its oldest item: every number moves down by one item, and the last item's places become 0.
 fn take_part(part: &mut [i32])
     requires { ⌜ length (now part) ≡ PART ⌝ }
-    ensures { λ _. ⌜ now (part .exit) ≡ taken (now (part .entry)) ⌝ }
+    ensures { λ _. ⌜ now (part .exit) ≡ withoutOldest (now (part .entry)) ⌝ }
 {
     let last = PART - FIELDS;
     let mut to = 0;
@@ -74,7 +75,7 @@ fn take_part(part: &mut [i32])
 
 // The oldest item of queue q goes.
 pub fn take(store: &mut [i32], q: usize)
-    requires { ⌜ (length (now store) ≡ STORE) × (q < QUEUES) ⌝ }
+    requires { ⌜ PART * q + PART ≤ length (now store) ⌝ }
     ensures { λ _. ⌜ now (store .exit) ≡ takeAt (now (store .entry)) q ⌝ }
 {
     let from = PART * q;
@@ -98,7 +99,7 @@ fn first_item(part: &[i32]) -> Item
 
 // The oldest item of queue q.
 pub fn first(store: &[i32], q: usize) -> Item
-    requires { ⌜ (length (now store) ≡ STORE) × (q < QUEUES) ⌝ }
+    requires { ⌜ PART * q + PART ≤ length (now store) ⌝ }
     ensures { λ r. ⌜ r ≡ firstOf (part (now (store .entry)) q) ⌝ }
 {
     let from = PART * q;
@@ -109,7 +110,7 @@ pub fn first(store: &[i32], q: usize) -> Item
 // Whether each number of a part from `from` on is 0. It looks at all of them: without a way out the loop takes several at a time.
 pub fn zeros_from(part: &[i32], from: usize) -> bool
     requires { ⌜ from ≤ length (now part) ⌝ }
-    ensures { λ r. ⌜ r ≡ zerosFrom (now (part .entry)) from ⌝ }
+    ensures { λ r. ⌜ r ≡ zerosPast (now (part .entry)) from ⌝ }
 {
     let mut clean = true;
     let mut i = from;

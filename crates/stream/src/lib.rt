@@ -14,11 +14,9 @@ pub struct Window {
     pub end: usize,
 }
 
-// What comes next: a call that may change the sheet, one that may change the state, any other, the middle of a call, or nothing.
+// What comes next: a call, the middle of one, or nothing.
 pub enum Found {
-    Sheet,
-    State,
-    Other,
+    Call,
     Cut,
     End,
 }
@@ -86,11 +84,11 @@ fn pass_over(input: &mut [u8], n: usize) -> Next
             return no_call(Found::Cut, 0, 0);
         }
         if left < end {
-            return no_call(Found::Other, left, end);
+            return no_call(Found::Call, left, end);
         }
         left -= end;
     }
-    no_call(Found::Other, 0, 0)
+    no_call(Found::Call, 0, 0)
 }
 
 // A call whose body of n bytes is too long: its bytes are passed over.
@@ -101,17 +99,9 @@ fn too_long(input: &mut [u8], w: Window, n: usize) -> Next
 {
     let there = w.end - w.at;
     if n <= there {
-        return no_call(Found::Other, w.at + n, w.end);
+        return no_call(Found::Call, w.at + n, w.end);
     }
     pass_over(&mut *input, n - there)
-}
-
-fn found_of(call: u8) -> Found {
-    match call {
-        2 | 6 | 7 | 8 => Found::Sheet,
-        9 | 10 | 11 | 12 | 13 | 15 | 16 => Found::State,
-        _ => Found::Other,
-    }
 }
 
 // A call whose body of n bytes begins at the window.
@@ -127,7 +117,7 @@ fn whole(input: &mut [u8], before: Window, call: u8, n: usize) -> Next
     }
     let end = at + n;
     Next {
-        found: found_of(call),
+        found: Found::Call,
         call,
         at,
         end,

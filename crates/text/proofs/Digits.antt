@@ -1,12 +1,12 @@
 -- The digits of a number: by its last digit, how many there are, and a signed number's by its bits.
 -- Assumes nothing.
-use mathlib.Core.Path.{_≡_, ap, _∙_, sym}
+use mathlib.Core.Path.{_≡_, refl, ap, _∙_, sym}
 use mathlib.Core.Logic.{⊎-elim}
 use mathlib.Core.List.{List, [], _∷_, _++_}
 use Prim.Native.Nat.{ℕ, zero, suc, _+_, _-_, _/_, _%_, _^_, _<_, _≤_}
 use native.Mathlib.Nat.{div-lt-self, div-lt-iff-lt-mul, pow-suc}
 use native.Mathlib.Omega.{arith}
-use lib.Dec.{lit<}
+use lib.Dec.{ltb, lit<}
 use lib.ListN.{length, length-append}
 use lib.IntN.{ℤ, pos, negsuc}
 use lib.Signed.{mag}
@@ -18,22 +18,23 @@ use Rattle.text.specs.Text.{digit, digits, natural, integer}
 
 -- ---- any bound above the number gives the same digits
 
-tenth : (n k : ℕ) → 10 ≤ n → n < suc k → n / 10 < k
+tenth : (n k : ℕ) → 10 ≤ n → n ≤ suc k → n / 10 ≤ k
 tenth n k h l = omega (arith, div-lt-self {n = n} {k = 10} (omega arith) (lit< tt))
 
-digits-small : (k n : ℕ) → n < 10 → digits (suc k) n ≡ digit n ∷ []
+digits-small : (k n : ℕ) → n < 10 → digits k (ltb n 10) n ≡ digit n ∷ []
 unfolding digits
-digits-small k n h = rw (lt-ltb n 10 h)
+digits-small zero n h = refl
+digits-small (suc k) n h = rw (lt-ltb n 10 h)
 
-digits-more : (k n : ℕ) → 10 ≤ n → digits (suc k) n ≡ digits k (n / 10) ++ (digit (n % 10) ∷ [])
+digits-more : (k n : ℕ) → 10 ≤ n → digits (suc k) (ltb n 10) n ≡ digits k (ltb (n / 10) 10) (n / 10) ++ (digit (n % 10) ∷ [])
 unfolding digits
 digits-more k n h = rw (le-ltb n 10 h)
 
-digits-any : (j k n : ℕ) → n < j → n < k → digits j n ≡ digits k n
-digits-any zero k n a b = absurd (omega arith)
-digits-any (suc j) zero n a b = absurd (omega arith)
+digits-any : (j k n : ℕ) → n ≤ j → n ≤ k → digits j (ltb n 10) n ≡ digits k (ltb n 10) n
+digits-any zero k n a b = digits-small zero n (omega arith) ∙ sym (digits-small k n (omega arith))
+digits-any (suc j) zero n a b = digits-small (suc j) n (omega arith) ∙ sym (digits-small zero n (omega arith))
 digits-any (suc j) (suc k) n a b =
-    ⊎-elim (λ (h : n < 10). digits-small j n h ∙ sym (digits-small k n h))
+    ⊎-elim (λ (h : n < 10). digits-small (suc j) n h ∙ sym (digits-small (suc k) n h))
     (λ (h : 10 ≤ n).
     digits-more j n h ∙ ap (λ (l : List ℕ). l ++ (digit (n % 10) ∷ [])) (digits-any j k (n / 10) (tenth n j h a) (tenth n k h b))
     ∙ sym (digits-more k n h))
@@ -47,9 +48,10 @@ natural-small n h = digits-small n n h
 
 pub natural-more : (n : ℕ) → 10 ≤ n → natural n ≡ natural (n / 10) ++ (digit (n % 10) ∷ [])
 unfolding natural
-natural-more n h =
-    digits-more n n h
-    ∙ ap (λ (l : List ℕ). l ++ (digit (n % 10) ∷ [])) (digits-any n (suc (n / 10)) (n / 10) (tenth n n h (omega arith)) (omega arith))
+natural-more zero h = absurd (omega arith)
+natural-more (suc n) h =
+    digits-more n (suc n) h
+    ∙ ap (λ (l : List ℕ). l ++ (digit (suc n % 10) ∷ [])) (digits-any n (suc n / 10) (suc n / 10) (tenth (suc n) n h (omega arith)) (omega arith))
 
 -- ---- how many there are
 

@@ -14,14 +14,14 @@ use mir.Syntax.{w32}
 use mir.Val.{SFits, toZ, ofZ}
 use mir.Facts.{toZ-ofZ}
 use Rattle.lists.proofs.Sets.{sets-append}
-use Rattle.text.specs.Text.{natural, integer, Puts}
+use Rattle.text.specs.Text.{natural, integer, PutsText}
 use Rattle.text.proofs.Digits.{natural-small, natural-more, length-more, length-some, integer-small, integer-large}
 
-pub puts-none : (s : List ℕ) (at : ℕ) → Puts [] s at s at
+pub puts-none : (s : List ℕ) (at : ℕ) → PutsText [] s at s at
 puts-none s at = record { text = refl; past = omega arith }
 
 -- one piece, and the next from where it ended
-pub puts-then : {xs ys s t u : List ℕ} {at mid end : ℕ} → Puts xs s at t mid → Puts ys t mid u end → Puts (xs ++ ys) s at u end
+pub puts-then : {xs ys s t u : List ℕ} {at mid end : ℕ} → PutsText xs s at t mid → PutsText ys t mid u end → PutsText (xs ++ ys) s at u end
 puts-then {xs} {ys} {s} {t} {u} {at} {mid} {end} p q =
     record {
       text = q .text ∙ ap (λ (l : List ℕ). sets l mid ys) (p .text) ∙ ap (λ (k : ℕ). sets (sets s at xs) k ys) (p .past)
@@ -29,7 +29,7 @@ puts-then {xs} {ys} {s} {t} {u} {at} {mid} {end} p q =
       past = omega (arith, p .past, q .past, length-append xs ys);
     }
 
-pub puts-length : {xs s t : List ℕ} {at end : ℕ} → Puts xs s at t end → length t ≡ length s
+pub puts-length : {xs s t : List ℕ} {at end : ℕ} → PutsText xs s at t end → length t ≡ length s
 puts-length {xs} {s} {t} {at} p = ap length (p .text) ∙ length-sets s at xs
 
 -- two stores at different places
@@ -58,7 +58,7 @@ word-more s₀ s w at i h e =
     ap (λ (l : List ℕ). set l (at + i) (getD w i 0)) e ∙ ap (λ (k : ℕ). set (sets s₀ at (take i w)) k (getD w i 0)) n
     ∙ sets-append (take i w) (getD w i 0 ∷ []) s₀ at ∙ ap (sets s₀ at) (sym (word-take w i h))
 
-pub word-ends : (s₀ s w : List ℕ) (at i : ℕ) → i ≡ length w → s ≡ sets s₀ at (take i w) → Puts w s₀ at s (at + i)
+pub word-ends : (s₀ s w : List ℕ) (at i : ℕ) → i ≡ length w → s ≡ sets s₀ at (take i w) → PutsText w s₀ at s (at + i)
 word-ends s₀ s w at i h e =
     record {
       text = e ∙ ap (sets s₀ at) (ap (λ (k : ℕ). take k w) h ∙ take-length w);
@@ -94,7 +94,7 @@ module _ {s₀ : List ℕ} {at n : ℕ} {s : List ℕ} {m i : ℕ} (f : Filling 
   pub filling-place : 9 < m → 1 ≤ i
   filling-place h = omega (arith, f .place, length-more m (omega arith), length-some (m / 10))
 
-  pub filling-ends : m ≤ 9 → (e : ℕ) → e ≡ at + length (natural n) → Puts (natural n) s₀ at (set s at (48 + m % 10)) e
+  pub filling-ends : m ≤ 9 → (e : ℕ) → e ≡ at + length (natural n) → PutsText (natural n) s₀ at (set s at (48 + m % 10)) e
   filling-ends h e d =
       let r : m % 10 ≡ m = omega arith in
       record {
@@ -105,7 +105,7 @@ module _ {s₀ : List ℕ} {at n : ℕ} {s : List ℕ} {m i : ℕ} (f : Filling 
 -- ---- a signed number by its bits
 
 -- one byte
-pub puts-byte : (s : List ℕ) (at b : ℕ) → Puts (b ∷ []) s at (set s at b) (at + 1)
+pub puts-byte : (s : List ℕ) (at b : ℕ) → PutsText (b ∷ []) s at (set s at b) (at + 1)
 puts-byte s at b = record { text = refl; past = refl }
 
 -- b is the bits that the call of `number::bits` answers for z
@@ -119,12 +119,12 @@ module _ (z : ℤ) (b : ℕ) (f : SFits w32 z) (g : b ≡ ofZ w32 (toZ w32 (ofZ 
   pub room-small : b < 2147483648 → at + length (integer z) ≤ length s → at + length (natural b) ≤ length s
   room-small l r = omega (arith, ap length (integer-small z b h e l))
 
-  pub puts-small : b < 2147483648 → {t : List ℕ} {end : ℕ} → Puts (natural b) s at t end → Puts (integer z) s at t end
+  pub puts-small : b < 2147483648 → {t : List ℕ} {end : ℕ} → PutsText (natural b) s at t end → PutsText (integer z) s at t end
   puts-small l p = rw (integer-small z b h e l) p
 
   pub room-large : 2147483648 ≤ b → at + length (integer z) ≤ length s → at + 1 + length (natural (4294967296 - b)) ≤ length s
   room-large l r = omega (arith, ap length (integer-large z b h e l))
 
-  pub puts-large : 2147483648 ≤ b → {t : List ℕ} {end : ℕ} → Puts (natural (4294967296 - b)) (set s at 45) (at + 1) t end →
-      Puts (integer z) s at t end
+  pub puts-large : 2147483648 ≤ b → {t : List ℕ} {end : ℕ} → PutsText (natural (4294967296 - b)) (set s at 45) (at + 1) t end →
+      PutsText (integer z) s at t end
   puts-large l p = rw (integer-large z b h e l) (puts-then (puts-byte s at 45) p)

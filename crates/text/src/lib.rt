@@ -2,11 +2,11 @@
 ghost use Prim.Native.Nat.{_+_, _≤_};
 ghost use mathlib.Core.Path.{_≡_};
 ghost use lib.ListN.{length};
-ghost use Rattle.text.specs.Text.{natural, integer, Puts};
+ghost use Rattle.text.specs.Text.{natural, integer, PutsText};
 
 pub fn put_word(s: &mut [u8], at: usize, w: &[u8]) -> usize
     requires { ⌜ at + length (now w) ≤ length (now s) ⌝ }
-    ensures { λ r. ⌜ Puts (now (w .entry)) (now (s .entry)) at (now (s .exit)) r ⌝ }
+    ensures { λ r. ⌜ PutsText (now (w .entry)) (now (s .entry)) at (now (s .exit)) r ⌝ }
 {
     let mut i = 0;
     while i < w.len() {
@@ -32,7 +32,7 @@ fn width(n: usize) -> usize
 // A number's digits, from the last to the first.
 pub fn put_natural(s: &mut [u8], at: usize, n: usize) -> usize
     requires { ⌜ at + length (natural n) ≤ length (now s) ⌝ }
-    ensures { λ r. ⌜ Puts (natural n) (now (s .entry)) at (now (s .exit)) r ⌝ }
+    ensures { λ r. ⌜ PutsText (natural n) (now (s .entry)) at (now (s .exit)) r ⌝ }
 {
     let w = width(n);
     let mut m = n;
@@ -49,7 +49,7 @@ pub fn put_natural(s: &mut [u8], at: usize, n: usize) -> usize
 // A signed number, by its bits: from 2^31 on they are a negative one's.
 pub fn put_integer(s: &mut [u8], at: usize, z: i32) -> usize
     requires { ⌜ at + length (integer z) ≤ length (now s) ⌝ }
-    ensures { λ r. ⌜ Puts (integer z) (now (s .entry)) at (now (s .exit)) r ⌝ }
+    ensures { λ r. ⌜ PutsText (integer z) (now (s .entry)) at (now (s .exit)) r ⌝ }
 {
     let b = number::bits(z) as usize;
     if b < 2147483648 {

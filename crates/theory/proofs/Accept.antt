@@ -9,10 +9,11 @@ use native.Mathlib.Omega.{arith}
 use lib.ListN.{length, getD}
 use lib.Dec.{eqb, ltb}
 use borrow.Author.Tests.{ltb-true, ltb-false, eq-eqb}
-use Rattle.lists.specs.Lists.{bit}
+use Rattle.lists.specs.Lists.{bit, times}
 use Rattle.lists.proofs.Bits.{bit-one}
+use Rattle.lists.proofs.Times.{times-member, member-times}
 use Rattle.theory.proofs.Steps.{lineOp}
-use Rattle.theory.proofs.Deal.{oneOf, Once, dealOp, gatherOp}
+use Rattle.theory.proofs.Deal.{Once, dealOp, gatherOp}
 use Rattle.theory.proofs.Equations.{Kind, line, latest, double, deal, gather, Ways}
 use Rattle.theory.proofs.Denote.{denote, takesFrom, Good, latestOp, doubleOp}
 use Rattle.theory.proofs.Sheets.{Accepted, gives, holds, blank, find, find-none}
@@ -57,14 +58,20 @@ module _ {A : Type 0} (f : A → ℕ) where
   tot-none [] d z = refl
   tot-none (x ∷ xs) d z = omega (arith, z 0 (omega arith), tot-none xs d (λ i h. z (suc i) (omega arith)))
 
-abbrev pub occ : ℕ → List ℕ → ℕ
-occ q l = tot (λ r. bit (eqb q r)) l
+-- how often a queue stands in a list
+tot-times : (q : ℕ) (l : List ℕ) → tot (λ r. bit (eqb q r)) l ≡ times q l
+unfolding tot
+tot-times q [] = refl
+tot-times q (r ∷ l) = rw (tot-times q l)
+
+pub times-at : (q : ℕ) (l : List ℕ) (j : ℕ) → j < length l → bit (eqb q (getD l j 0)) ≤ times q l
+times-at q l j h = omega (arith, tot-at (λ r. bit (eqb q r)) l j 0 h, tot-times q l)
 
 unfoldable pub givesN : ℕ → Kind → ℕ
 givesN q (line p o ss) = bit (eqb q o)
 givesN q (latest p k f) = 0
 givesN q (double p o o′) = bit (eqb q o) + bit (eqb q o′)
-givesN q (deal c p os) = occ q os
+givesN q (deal c p os) = times q os
 givesN q (gather c o is) = bit (eqb q o)
 
 unfoldable pub readsN : ℕ → Kind → ℕ
@@ -72,7 +79,7 @@ readsN q (line p o ss) = bit (eqb q p)
 readsN q (latest p k f) = bit (eqb q p)
 readsN q (double p o o′) = bit (eqb q p)
 readsN q (deal c p os) = bit (eqb q p)
-readsN q (gather c o is) = occ q is
+readsN q (gather c o is) = times q is
 
 abbrev pub holdsN : ℕ → Kind → ℕ
 holdsN k κ = bit (holds κ k)
@@ -98,31 +105,13 @@ pub record Acc (I Q : ℕ) (ops : List Kind) : Type 0 where
   pub ways : All Ways ops
   pub ord : Ord ops
 
-pub occ-one : (q : ℕ) (l : List ℕ) → oneOf q l ≡ true → 1 ≤ occ q l
-unfolding tot
-occ-one q [] h = let z : _≡_ {A = ℕ} 0 1 = cc in absurd (omega arith)
-occ-one q (r ∷ l) h = go (eqb q r) h (λ h. occ-one q l h)
-  where
-    go : (b : Bool) → (b || oneOf q l) ≡ true → (oneOf q l ≡ true → 1 ≤ occ q l) → 1 ≤ bit b + occ q l
-    go true h f = omega arith
-    go false h f = omega (arith, f h)
-
-pub one-occ : (q : ℕ) (l : List ℕ) → 1 ≤ occ q l → oneOf q l ≡ true
-unfolding tot
-one-occ q [] h = absurd (omega arith)
-one-occ q (r ∷ l) h = go (eqb q r) h (λ h. one-occ q l h)
-  where
-    go : (b : Bool) → 1 ≤ bit b + occ q l → (1 ≤ occ q l → oneOf q l ≡ true) → (b || oneOf q l) ≡ true
-    go true h f = refl
-    go false h f = f (omega arith)
-
 pub reads-one : (κ : Kind) (q : ℕ) → takesFrom κ q ≡ true → 1 ≤ readsN q κ
 unfolding takesFrom readsN
 reads-one (line p o ss) q h = bit-one (eqb q p) h
 reads-one (latest p k f) q h = bit-one (eqb q p) h
 reads-one (double p o o′) q h = bit-one (eqb q p) h
 reads-one (deal c p os) q h = bit-one (eqb q p) h
-reads-one (gather c o is) q h = occ-one q is h
+reads-one (gather c o is) q h = times-member q is h
 
 pub gives-one : (κ : Kind) (q : ℕ) → gives κ q ≡ true → 1 ≤ givesN q κ
 unfolding denote givesN lineOp latestOp doubleOp dealOp gatherOp
@@ -133,7 +122,7 @@ gives-one (double p o o′) q h = go (eqb q o) (eqb q o′) h
     go : (a b : Bool) → (a || b) ≡ true → 1 ≤ bit a + bit b
     go true b h = omega arith
     go false b h = omega (arith, bit-one b h)
-gives-one (deal c p os) q h = occ-one q os h
+gives-one (deal c p os) q h = times-member q os h
 gives-one (gather c o is) q h = bit-one (eqb q o) h
 
 pub not-gives : (κ : Kind) (q : ℕ) → gives κ q ≡ false → givesN q κ ≡ 0
@@ -145,15 +134,11 @@ not-gives (double p o o′) q h = go (eqb q o) (eqb q o′) h
     go : (a b : Bool) → (a || b) ≡ false → bit a + bit b ≡ 0
     go true b h = let z : _≡_ {A = ℕ} 0 1 = cc in absurd (omega arith)
     go false b h = rw h
-not-gives (deal c p os) q h = go (occ q os) refl
-  where
-    go : (n : ℕ) → occ q os ≡ n → n ≡ 0
-    go zero e = refl
-    go (suc n) e = let t = one-occ q os (omega arith) in let z : _≡_ {A = ℕ} 0 1 = cc in absurd (omega arith)
+not-gives (deal c p os) q h = member-times q os h
 not-gives (gather c o is) q h = rw h
 
-once-of : (l : List ℕ) → ((q : ℕ) → occ q l ≤ 1) → Once l
-once-of l h i j hi hj e = tot-once (λ r. bit (eqb (getD l i 0) r)) l 0 (h (getD l i 0)) i j hi hj
+once-of : (l : List ℕ) → ((q : ℕ) → times q l ≤ 1) → Once l
+once-of l h i j hi hj e = tot-once (λ r. bit (eqb (getD l i 0) r)) l 0 (omega (arith, tot-times (getD l i 0) l, h (getD l i 0))) i j hi hj
     (bit-one (eqb (getD l i 0) (getD l i 0)) (eq-eqb (getD l i 0) (getD l i 0) refl))
     (bit-one (eqb (getD l i 0) (getD l j 0)) (eq-eqb (getD l i 0) (getD l j 0) e))
 
@@ -230,8 +215,4 @@ not-reads (line p o ss) q h = rw h
 not-reads (latest p k f) q h = rw h
 not-reads (double p o o′) q h = rw h
 not-reads (deal c p os) q h = rw h
-not-reads (gather c o is) q h = go (occ q is) refl
-  where
-    go : (n : ℕ) → occ q is ≡ n → n ≡ 0
-    go zero e = refl
-    go (suc n) e = let t = one-occ q is (omega arith) in let z : _≡_ {A = ℕ} 0 1 = cc in absurd (omega arith)
+not-reads (gather c o is) q h = member-times q is h

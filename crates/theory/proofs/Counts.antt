@@ -12,11 +12,12 @@ use lib.ListN.{length, getD}
 use lib.Dec.{eqb}
 use lib.IntN.{ℤ, pos}
 use borrow.Author.Tests.{eqb-true, eqb-false, eq-eqb}
+use Rattle.lists.specs.Lists.{member}
+use Rattle.lists.proofs.Members.{member-at}
 use Rattle.theory.proofs.Trace.{mark, cons?, tput, ttake}
 use Rattle.theory.proofs.Steps.{Item, Step, runs, lout, lineOp, line-put, line-take}
 use Rattle.theory.proofs.Kahn.{sum, sum-zero, lt-of}
-use Rattle.theory.proofs.Deal.{dealt, onward, onward-lt, dealt-le, oneOf, one-of, Once, dealOp, gatherOp, deal-put, deal-take}
-use Rattle.theory.proofs.Deal.{gather-put, gather-take}
+use Rattle.theory.proofs.Deal.{shareOf, onward, onward-lt, share-le, Once, dealOp, gatherOp, deal-put, deal-take, gather-put, gather-take}
 use Rattle.theory.proofs.Equations.{Kind, line, latest, double, deal, gather, nought}
 use Rattle.theory.proofs.Denote.{denote, takesFrom, Good, latestOp, doubleOp, double-take, double-put, way-of}
 
@@ -50,13 +51,13 @@ sum-one (suc n) p f g h e s = go (eqb n p) refl (λ l. sum-one n p f g l e s)
     go true t ih = let m = eqb-true n p t in let l : g n ≡ suc (f n) = rw m s in omega (arith, sum-same n p f g (omega arith) e)
     go false t ih = omega (arith, e n t, ih (lt-of n p h (eqb-false n p t)))
 
-sum-dealt : {A : Type 0} (k c : ℕ) (xs : List A) → c < k → sum k (λ j. length (dealt k j c xs)) ≡ length xs
-unfolding dealt
-sum-dealt k c [] h = sym (sum-zero k)
-sum-dealt k c (x ∷ xs) h =
-    sum-one k c (λ j. length (dealt k j (onward k c) xs)) (λ j. length (cons? (mark (eqb j c) x) (dealt k j (onward k c) xs))) h
+sum-share : {A : Type 0} (k c : ℕ) (xs : List A) → c < k → sum k (λ j. length (shareOf k j c xs)) ≡ length xs
+unfolding shareOf
+sum-share k c [] h = sym (sum-zero k)
+sum-share k c (x ∷ xs) h =
+    sum-one k c (λ j. length (shareOf k j (onward k c) xs)) (λ j. length (cons? (mark (eqb j c) x) (shareOf k j (onward k c) xs))) h
     (λ j e. rw e) (rw (eq-eqb c c refl))
-    ∙ ap suc (sum-dealt k (onward k c) xs (onward-lt k c h))
+    ∙ ap suc (sum-share k (onward k c) xs (onward-lt k c h))
 
 lout-le : (ss : List Step) (v : ℕ → ℤ) (xs : List Item) → length (lout ss v xs) ≤ length xs
 unfolding lout
@@ -83,15 +84,15 @@ module _ (W : ℕ → ℕ) (xs : List Item) where
       → length xs ≤ W p → (j : ℕ) → j < length os → length (tput (dealOp c p os) nought (getD os j 0) xs) ≤ W (getD os j 0)
   deal-grows c p os h0 u w k j hj =
       rw (deal-put c p os u j hj 0 nought xs refl h0)
-      (le-trans (way-le (length os) j (W p) (length (dealt (length os) j 0 xs)) h0 hj
-      (omega (arith, dealt-le (length os) j 0 j xs hj h0 hj (inl (omega arith))))) (w j hj))
+      (le-trans (way-le (length os) j (W p) (length (shareOf (length os) j 0 xs)) h0 hj
+      (omega (arith, share-le (length os) j 0 j xs hj h0 hj (inl (omega arith))))) (w j hj))
 
   gather-grows : (c o : ℕ) (is : List ℕ) → 0 < length is → Once is → W o ≡ sum (length is) (λ j. W (getD is j 0))
-      → ((p : ℕ) → oneOf p is ≡ true → length (ttake (gatherOp c o is) nought p xs) ≤ W p) → length xs ≤ W o
+      → ((p : ℕ) → member p is ≡ true → length (ttake (gatherOp c o is) nought p xs) ≤ W p) → length xs ≤ W o
   gather-grows c o is h0 u w t =
-      rw (w, ← (sum-dealt (length is) 0 xs h0))
-      (sum-below (length is) (λ j. length (dealt (length is) j 0 xs)) (λ j. W (getD is j 0))
-      (λ j hj. rw (gather-take c o is u j hj 0 nought xs refl h0) at (t (getD is j 0) (one-of is j hj))))
+      rw (w, ← (sum-share (length is) 0 xs h0))
+      (sum-below (length is) (λ j. length (shareOf (length is) j 0 xs)) (λ j. W (getD is j 0))
+      (λ j hj. rw (gather-take c o is u j hj 0 nought xs refl h0) at (t (getD is j 0) (member-at is j hj))))
 
   pub grows : (κ : Kind) → WEq κ W → Good κ → ((p : ℕ) → takesFrom κ p ≡ true → length (ttake (denote κ) nought p xs) ≤ W p)
       → (q : ℕ) → denote κ .outs q ≡ true → length (tput (denote κ) nought q xs) ≤ W q

@@ -1,7 +1,7 @@
 -- Round-robin: what a deal gives each way, which is also what a gather has taken from each way.
 -- Assumes nothing.
 use mathlib.Core.Path.{_≡_, refl, ap}
-use mathlib.Core.Bool.{Bool, true, false, cond, _||_}
+use mathlib.Core.Bool.{Bool, true, false, cond}
 use mathlib.Core.Option.{some, none}
 use mathlib.Core.Logic.{_⊎_, inl, inr, _≢_}
 use mathlib.Core.List.{List, [], _∷_, map}
@@ -10,9 +10,12 @@ use native.Mathlib.Omega.{arith}
 use native.Mathlib.Nat.{mul-zero}
 use lib.ListN.{length, getD}
 use lib.Dec.{eqb}
-use lib.IntN.{ℤ, pos, negsuc}
+use lib.IntN.{ℤ, pos}
 use borrow.Author.Tests.{eqb-true, eqb-false, eq-eqb}
+use Rattle.lists.specs.Lists.{member}
 use Rattle.lists.proofs.Places.{getD-any}
+use Rattle.lists.proofs.Members.{member-at}
+use Rattle.effect.specs.Effect.{natOf}
 use Rattle.theory.proofs.Model.{Op, Local}
 use Rattle.theory.proofs.Trace.{mark, cons?, tv, tput, ttake}
 use Rattle.theory.proofs.Steps.{Item, upd}
@@ -20,10 +23,11 @@ use Rattle.theory.proofs.Steps.{Item, upd}
 abbrev pub onward : ℕ → ℕ → ℕ
 onward k c = cond (eqb (suc c) k) 0 (suc c)
 
+-- what way j gets of a list that is dealt k ways from cursor c on, and where the cursor then is
 module _ {A : Type 0} where
-  unfoldable pub dealt : ℕ → ℕ → ℕ → List A → List A
-  dealt k j c [] = []
-  dealt k j c (x ∷ xs) = cons? (mark (eqb j c) x) (dealt k j (onward k c) xs)
+  unfoldable pub shareOf : ℕ → ℕ → ℕ → List A → List A
+  shareOf k j c [] = []
+  shareOf k j c (x ∷ xs) = cons? (mark (eqb j c) x) (shareOf k j (onward k c) xs)
 
   unfoldable pub turn : ℕ → ℕ → List A → ℕ
   turn k c [] = c
@@ -31,13 +35,13 @@ module _ {A : Type 0} where
 
 -- the key of split: what is dealt of a mapped list is what is dealt, mapped
 module _ {A B : Type 0} (f : A → B) where
-  pub dealt-map : (k j c : ℕ) (xs : List A) → dealt k j c (map f xs) ≡ map f (dealt k j c xs)
-  unfolding dealt
-  dealt-map k j c [] = refl
-  dealt-map k j c (x ∷ xs) = go (eqb j c) (dealt-map k j (onward k c) xs)
+  pub share-map : (k j c : ℕ) (xs : List A) → shareOf k j c (map f xs) ≡ map f (shareOf k j c xs)
+  unfolding shareOf
+  share-map k j c [] = refl
+  share-map k j c (x ∷ xs) = go (eqb j c) (share-map k j (onward k c) xs)
     where
-      go : (b : Bool) → dealt k j (onward k c) (map f xs) ≡ map f (dealt k j (onward k c) xs)
-          → cons? (mark b (f x)) (dealt k j (onward k c) (map f xs)) ≡ map f (cons? (mark b x) (dealt k j (onward k c) xs))
+      go : (b : Bool) → shareOf k j (onward k c) (map f xs) ≡ map f (shareOf k j (onward k c) xs)
+          → cons? (mark b (f x)) (shareOf k j (onward k c) (map f xs)) ≡ map f (cons? (mark b x) (shareOf k j (onward k c) xs))
       go true ih = ap (λ (l : List B). f x ∷ l) ih
       go false ih = ih
 
@@ -82,16 +86,16 @@ far-same k j d h (inl e) = omega arith
 far-same k j d h (inr e) = absurd (omega arith)
 
 module _ {A : Type 0} where
-  pub dealt-le : (k j c d : ℕ) (xs : List A) → j < k → c < k → d < k → Far k j c d → k * length (dealt k j c xs) + d < length xs + k
-  unfolding dealt
-  dealt-le k j c d [] hj hc hd f = omega (arith, mul-zero k)
-  dealt-le k j c d (x ∷ xs) hj hc hd f = go (eqb j c) refl d hd f (λ d hd f. dealt-le k j (onward k c) d xs hj (onward-lt k c hc) hd f)
+  pub share-le : (k j c d : ℕ) (xs : List A) → j < k → c < k → d < k → Far k j c d → k * length (shareOf k j c xs) + d < length xs + k
+  unfolding shareOf
+  share-le k j c d [] hj hc hd f = omega (arith, mul-zero k)
+  share-le k j c d (x ∷ xs) hj hc hd f = go (eqb j c) refl d hd f (λ d hd f. share-le k j (onward k c) d xs hj (onward-lt k c hc) hd f)
     where
       L : ℕ
-      L = length (dealt k j (onward k c) xs)
+      L = length (shareOf k j (onward k c) xs)
 
       go : (b : Bool) → eqb j c ≡ b → (d : ℕ) → d < k → Far k j c d → ((d : ℕ) → d < k → Far k j (onward k c) d → k * L + d < length xs + k)
-          → k * length (cons? (mark b x) (dealt k j (onward k c) xs)) + d < suc (length xs) + k
+          → k * length (cons? (mark b x) (shareOf k j (onward k c) xs)) + d < suc (length xs) + k
       go true e d hd f ih =
           let m = eqb-true j c e in
           let z : d ≡ 0 = far-same k j d hd (rw (← m) at f) in
@@ -100,21 +104,13 @@ module _ {A : Type 0} where
       go false e zero hd f ih = absurd (eqb-false j c e (far-zero k j c hc f))
       go false e (suc d) hd f ih = let h = ih d (omega arith) (far-on k j c d hj hc f) in omega arith
 
--- deal and gather as operators: `way j` is the queue of way j
-abbrev pub natOf : ℤ → ℕ
-natOf (pos n) = n
-natOf (negsuc n) = 0
-
-abbrev pub oneOf : ℕ → List ℕ → Bool
-oneOf q [] = false
-oneOf q (r ∷ rs) = eqb q r || oneOf q rs
-
+-- deal and gather as operators
 unfoldable pub dealOp : ℕ → ℕ → List ℕ → Op Item ℤ
 dealOp c p os = record {
-  outs = λ q. oneOf q os;
+  outs = λ q. member q os;
   own = λ i. eqb i c;
   sel = λ v. p;
-  puts = λ x v q. cond (oneOf q os) (mark (eqb q (getD os (natOf (v c)) 0)) x) none;
+  puts = λ x v q. cond (member q os) (mark (eqb q (getD os (natOf (v c)) 0)) x) none;
   next = λ x v. upd c (pos (onward (length os) (natOf (v c)))) v;
 }
 
@@ -162,31 +158,22 @@ once-eqb qs u i j hi hj = go (eqb i j) refl
         ne true h = absurd (eqb-false i j e (u i j hi hj (eqb-true (getD qs i 0) (getD qs j 0) h)))
         ne false h = refl
 
-pub one-of : (qs : List ℕ) (j : ℕ) → j < length qs → oneOf (getD qs j 0) qs ≡ true
-one-of [] j h = absurd (omega arith)
-one-of (q ∷ qs) zero h = rw (eq-eqb q q refl)
-one-of (q ∷ qs) (suc j) h = go (eqb (getD qs j 0) q) (one-of qs j (omega arith))
-  where
-    go : (b : Bool) → oneOf (getD qs j 0) qs ≡ true → (b || oneOf (getD qs j 0) qs) ≡ true
-    go true h = refl
-    go false h = h
-
 -- a deal puts on way j what is dealt to it
 pub deal-put : (c p : ℕ) (os : List ℕ) → Once os → (j : ℕ) → j < length os → (k : ℕ) (v : ℕ → ℤ) (xs : List Item) → v c ≡ pos k
     → k < length os
-    → tput (dealOp c p os) v (getD os j 0) xs ≡ dealt (length os) j k xs
-unfolding dealOp tput dealt
+    → tput (dealOp c p os) v (getD os j 0) xs ≡ shareOf (length os) j k xs
+unfolding dealOp tput shareOf
 deal-put c p os u j hj k v [] e hk = refl
 deal-put c p os u j hj k v (x ∷ xs) e hk =
     let ih = deal-put c p os u j hj (onward (length os) k) (upd c (pos (onward (length os) (natOf (v c)))) v) xs
     (rw (eq-eqb c c refl, e)) (onward-lt (length os) k hk) in
-    rw (one-of os j hj, e, once-eqb os u j k hj hk) (ap (cons? (mark (eqb j k) x)) (rw e at ih))
+    rw (member-at os j hj, e, once-eqb os u j k hj hk) (ap (cons? (mark (eqb j k) x)) (rw e at ih))
 
 -- a gather has taken from way j what would be dealt to it of all that it put
 pub gather-take : (c o : ℕ) (is : List ℕ) → Once is → (j : ℕ) → j < length is → (k : ℕ) (v : ℕ → ℤ) (xs : List Item) → v c ≡ pos k
     → k < length is
-    → ttake (gatherOp c o is) v (getD is j 0) xs ≡ dealt (length is) j k xs
-unfolding gatherOp ttake dealt
+    → ttake (gatherOp c o is) v (getD is j 0) xs ≡ shareOf (length is) j k xs
+unfolding gatherOp ttake shareOf
 gather-take c o is u j hj k v [] e hk = refl
 gather-take c o is u j hj k v (x ∷ xs) e hk =
     let ih = gather-take c o is u j hj (onward (length is) k) (upd c (pos (onward (length is) (natOf (v c)))) v) xs

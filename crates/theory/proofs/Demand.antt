@@ -17,8 +17,8 @@ use Rattle.theory.proofs.Steps.{Item}
 use Rattle.theory.proofs.Kahn.{Sol, Worst, rested, same-history, same-vars, sum, weight}
 use Rattle.theory.proofs.Equations.{Kind, nought, Whole, Eq}
 use Rattle.theory.proofs.Denote.{takesFrom}
-use Rattle.theory.proofs.Sheets.{found, find, find-some, find-none, Accepted, sheetOf, eqs, solves, hit, opAt, op-at, inside}
-use Rattle.theory.proofs.Sheets.{empty-own, gives, holds, blank}
+use Rattle.theory.proofs.Sheets.{found, find, find-some, find-none, Accepted, sheetOf, eqs, solves, hit, opAt, op-at, inside, empty-own, gives, holds}
+use Rattle.theory.proofs.Sheets.{blank}
 use Rattle.theory.proofs.Counts.{WEq, grows}
 use Rattle.theory.proofs.Rewrites.{All, all-at, all-of, readBy, harvest}
 

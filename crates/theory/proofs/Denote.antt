@@ -10,12 +10,15 @@ use lib.ListN.{length, getD}
 use lib.Dec.{eqb}
 use lib.IntN.{ℤ, pos}
 use borrow.Author.Tests.{eqb-true, eq-eqb}
+use Rattle.lists.specs.Lists.{member}
 use Rattle.lists.proofs.Places.{getD-any}
+use Rattle.lists.proofs.Members.{member-at}
+use Rattle.effect.specs.Effect.{natOf}
 use Rattle.theory.proofs.Model.{Op, Local}
 use Rattle.theory.proofs.Trace.{mark, tv, tput, ttake, Fits, OpSol}
 use Rattle.theory.proofs.Steps.{Item, Step, upd, lout, lvars, lineOp, line-local, line-put, line-take, line-var}
-use Rattle.theory.proofs.Deal.{dealt, turn, turn-lt, natOf, oneOf, Once, dealOp, gatherOp, deal-local, gather-local}
-use Rattle.theory.proofs.Deal.{deal-put, deal-take, deal-turn, gather-put, gather-take, gather-turn, one-of}
+use Rattle.theory.proofs.Deal.{shareOf, turn, turn-lt, Once, dealOp, gatherOp, deal-local, gather-local, deal-put, deal-take, deal-turn, gather-put}
+use Rattle.theory.proofs.Deal.{gather-take, gather-turn}
 use Rattle.theory.proofs.Equations.{Kind, line, latest, double, deal, gather, nought, lastOf, Whole, Eq}
 
 unfoldable pub latestOp : ℕ → ℕ → ℕ → Op Item ℤ
@@ -68,7 +71,7 @@ takesFrom (line p o ss) q = eqb q p
 takesFrom (latest p k f) q = eqb q p
 takesFrom (double p o o′) q = eqb q p
 takesFrom (deal c p os) q = eqb q p
-takesFrom (gather c o is) q = oneOf q is
+takesFrom (gather c o is) q = member q is
 
 unfoldable pub Good : Kind → Type 0
 Good (line p o ss) = Unit
@@ -108,11 +111,11 @@ or-same-right a b = go (eqb b a)
     go false = eq-eqb b b refl
 
 -- a way's queue, by its number
-pub way-of : (qs : List ℕ) (q : ℕ) → oneOf q qs ≡ true → (j : ℕ) × (j < length qs) × (getD qs j 0 ≡ q)
+pub way-of : (qs : List ℕ) (q : ℕ) → member q qs ≡ true → (j : ℕ) × (j < length qs) × (getD qs j 0 ≡ q)
 way-of [] q h = let z : _≡_ {A = ℕ} 0 1 = cc in absurd (omega arith)
 way-of (r ∷ qs) q h = go (eqb q r) refl h (λ h. way-of qs q h)
   where
-    go : (b : Bool) → eqb q r ≡ b → (b || oneOf q qs) ≡ true → (oneOf q qs ≡ true → (j : ℕ) × (j < length qs) × (getD qs j 0 ≡ q))
+    go : (b : Bool) → eqb q r ≡ b → (b || member q qs) ≡ true → (member q qs ≡ true → (j : ℕ) × (j < length qs) × (getD qs j 0 ≡ q))
         → (j : ℕ) × (j < suc (length qs)) × (getD (r ∷ qs) j 0 ≡ q)
     go true e h ih = (0, omega arith, sym (eqb-true q r e))
     go false e h ih = let k = ih h in (suc (k .0), omega (arith, k .1), k .2)
@@ -145,11 +148,11 @@ module _ (H : Whole) (u : ℕ → ℤ) (R : ℕ → Type 0) where
   unfolding Eq dealOp
   deal-eq c p os w o s =
       let h : s .tr ≡ H p = sym (deal-take c p os nought (s .tr)) ∙ s .ends in (
-        (λ j hj. s .puts (getD os j 0) (one-of os j hj) ∙ deal-put c p os o j hj 0 nought (s .tr) refl w ∙ ap (dealt (length os) j 0) h),
+        (λ j hj. s .puts (getD os j 0) (member-at os j hj) ∙ deal-put c p os o j hj 0 nought (s .tr) refl w ∙ ap (shareOf (length os) j 0) h),
         s .vars c (eq-eqb c c refl) ∙ deal-turn c p os 0 nought (s .tr) refl ∙ ap (λ (l : List Item). pos (turn (length os) 0 l)) h,
       )
 
-  gather-eq : (c o : ℕ) (is : List ℕ) → 0 < length is → Once is → ((p : ℕ) → oneOf p is ≡ true → R p)
+  gather-eq : (c o : ℕ) (is : List ℕ) → 0 < length is → Once is → ((p : ℕ) → member p is ≡ true → R p)
       → OpSol (gatherOp c o is) R nought H u → Eq (gather c o is) H u
   unfolding Eq gatherOp
   gather-eq c o is w d r s =
@@ -159,7 +162,7 @@ module _ (H : Whole) (u : ℕ → ℤ) (R : ℕ → Type 0) where
       let g : getD is (natOf (tv (gatherOp c o is) nought (s .tr) c)) (getD is 0 0) ≡ getD is t 0 =
       rw (gather-turn c o is 0 nought (s .tr) refl) (getD-any is t (getD is 0 0) 0 ht) in
       rw h (
-        (λ j hj. let k = s .takes (getD is j 0) (r (getD is j 0) (one-of is j hj)) in
+        (λ j hj. let k = s .takes (getD is j 0) (r (getD is j 0) (member-at is j hj)) in
             (k .0, ap (λ (l : List Item). l ++ k .0) (sym (gather-take c o is d j hj 0 nought (s .tr) refl w)) ∙ k .1)),
         sym (gather-take c o is d t ht 0 nought (s .tr) refl w)
             ∙ subst (λ (q : ℕ). ttake (gatherOp c o is) nought q (s .tr) ≡ H q) g (s .ends),
@@ -233,7 +236,7 @@ module _ (H : Whole) (u : ℕ → ℤ) (R : ℕ → Type 0) where
         (e .1 ∙ sym (deal-turn c p os 0 nought (H p) refl));
   }
 
-  eq-gather : (c o : ℕ) (is : List ℕ) → 0 < length is → Once is → ((q : ℕ) → R q → oneOf q is ≡ true) → Eq (gather c o is) H u
+  eq-gather : (c o : ℕ) (is : List ℕ) → 0 < length is → Once is → ((q : ℕ) → R q → member q is ≡ true) → Eq (gather c o is) H u
       → OpSol (gatherOp c o is) R nought H u
   unfolding Eq gatherOp
   eq-gather c o is w d r e = record {

@@ -11,10 +11,9 @@ use lib.IntN.{ℤ, pos}
 use Rattle.lists.proofs.Build.{never}
 use Rattle.lists.proofs.Places.{getD-any}
 use Rattle.theory.proofs.Steps.{Item, Step, names, lout, lvars, Fused, fuse}
-use Rattle.theory.proofs.Deal.{dealt, turn, dealt-map, turn-map, turn-lt}
-use Rattle.theory.proofs.Equations.{Kind, line, latest, double, deal, gather, nought, Whole, Eq, Queues, Variables, Ways, ren}
-use Rattle.theory.proofs.Equations.{names-append, bindO, pure, pruns, sift, sift-sift, lout-pure, pure-names, total, image}
-use Rattle.theory.proofs.Equations.{lout-total, total-names}
+use Rattle.theory.proofs.Deal.{shareOf, turn, share-map, turn-map, turn-lt}
+use Rattle.theory.proofs.Equations.{Kind, line, latest, double, deal, gather, nought, Whole, Eq, Queues, Variables, Ways, ren, names-append, bindO, pure}
+use Rattle.theory.proofs.Equations.{pruns, sift, sift-sift, lout-pure, pure-names, total, image, lout-total, total-names}
 
 getD-ren : (ρ : ℕ → ℕ) (l : List ℕ) (j : ℕ) → j < length l → getD (map ρ l) j 0 ≡ ρ (getD l j 0)
 getD-ren ρ l j h = getD-any (map ρ l) j 0 (ρ 0) (rw (length-map l ρ) h) ∙ List·getD-map ρ l j 0
@@ -78,8 +77,8 @@ reorder-eq p m o a b H H′ u pa pb c hp ho hm ea eb = (
 
 -- the three equations of a split, for new contents H′ that hold on way j what is dealt, and behind its line that, mapped
 module _ (p o c d : ℕ) (os is : List ℕ) (ss : List Step) (H H′ : Whole) (u u′ : ℕ → ℤ) (t : total ss ≡ true) (same : length is ≡ length os)
-    (hp : H′ p ≡ H p) (ho : H′ o ≡ H o) (hd : (j : ℕ) → j < length os → H′ (getD os j 0) ≡ dealt (length os) j 0 (H p))
-    (hm : (j : ℕ) → j < length os → H′ (getD is j 0) ≡ map (image ss) (dealt (length os) j 0 (H p)))
+    (hp : H′ p ≡ H p) (ho : H′ o ≡ H o) (hd : (j : ℕ) → j < length os → H′ (getD os j 0) ≡ shareOf (length os) j 0 (H p))
+    (hm : (j : ℕ) → j < length os → H′ (getD is j 0) ≡ map (image ss) (shareOf (length os) j 0 (H p)))
     (pos-ways : 0 < length os)
     (uc : u′ c ≡ pos (turn (length os) 0 (H p))) (ud : u′ d ≡ pos (turn (length os) 0 (H p))) (e : Eq (line p o ss) H u) where
   pub split-deal : Eq (deal c p os) H′ u′
@@ -101,10 +100,10 @@ module _ (p o c d : ℕ) (os is : List ℕ) (ss : List Step) (H H′ : Whole) (u
   pub split-gather : Eq (gather d o is) H′ u′
   unfolding Eq
   split-gather = rw (same, whole, turn-map (image ss) (length os) 0 (H p)) (
-    (λ j h. ([], append-nil (dealt (length os) j 0 (map (image ss) (H p))) ∙ at j h)),
+    (λ j h. ([], append-nil (shareOf (length os) j 0 (map (image ss) (H p))) ∙ at j h)),
     at (turn (length os) 0 (H p)) (turn-lt (length os) 0 (H p) pos-ways),
     ud,
   )
     where
-      at : (j : ℕ) → j < length os → dealt (length os) j 0 (map (image ss) (H p)) ≡ H′ (getD is j 0)
-      at j h = dealt-map (image ss) (length os) j 0 (H p) ∙ sym (hm j h)
+      at : (j : ℕ) → j < length os → shareOf (length os) j 0 (map (image ss) (H p)) ≡ H′ (getD is j 0)
+      at j h = share-map (image ss) (length os) j 0 (H p) ∙ sym (hm j h)

@@ -18,7 +18,7 @@ use Rattle.lists.proofs.Build.{never}
 use Rattle.lists.proofs.Tests.{both}
 use Rattle.theory.proofs.Trace.{cons?}
 use Rattle.theory.proofs.Steps.{Item, Step, keep, add, copy, count, stamp, one, then, named, plus, names, runs, lout, lvars}
-use Rattle.theory.proofs.Deal.{dealt, turn}
+use Rattle.theory.proofs.Deal.{shareOf, turn}
 
 pub data Kind : Type 0 where
   line : ℕ → ℕ → List Step → Kind
@@ -41,9 +41,9 @@ unfoldable pub Eq : Kind → Whole → (ℕ → ℤ) → Type 0
 Eq (line p o ss) H u = (H o ≡ lout ss nought (H p)) × ((k : ℕ) → names ss k ≡ true → u k ≡ lvars ss nought (H p) k)
 Eq (latest p k f) H u = u k ≡ lastOf (pos 0) f (H p)
 Eq (double p o o′) H u = (H o ≡ H p) × (H o′ ≡ H p)
-Eq (deal c p os) H u = ((j : ℕ) → j < length os → H (getD os j 0) ≡ dealt (length os) j 0 (H p)) × (u c ≡ pos (turn (length os) 0 (H p)))
-Eq (gather c o is) H u = ((j : ℕ) → j < length is → (r : List Item) × (dealt (length is) j 0 (H o) ++ r ≡ H (getD is j 0)))
-    × (dealt (length is) (turn (length is) 0 (H o)) 0 (H o) ≡ H (getD is (turn (length is) 0 (H o)) 0)) ×
+Eq (deal c p os) H u = ((j : ℕ) → j < length os → H (getD os j 0) ≡ shareOf (length os) j 0 (H p)) × (u c ≡ pos (turn (length os) 0 (H p)))
+Eq (gather c o is) H u = ((j : ℕ) → j < length is → (r : List Item) × (shareOf (length is) j 0 (H o) ++ r ≡ H (getD is j 0)))
+    × (shareOf (length is) (turn (length is) 0 (H o)) 0 (H o) ≡ H (getD is (turn (length is) 0 (H o)) 0)) ×
     (u c ≡ pos (turn (length is) 0 (H o)))
 
 -- a property of each queue, and of each variable, that an operator names

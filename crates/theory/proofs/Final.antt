@@ -99,13 +99,13 @@ outputs Q ops s = harvest (readBy ops) (s .queue) Q 0
 abbrev pub begin : Whole → State Item ℤ
 begin feed = record { queue = feed; var = nought }
 
-pub demand-3 : {I Q V′ Q₂ V₂ : ℕ} {ops ops₂ : List Kind} → Calm I Q V′ ops → Made I Q V′ ops Q₂ V₂ ops₂
+pub model-agrees : {I Q V′ Q₂ V₂ : ℕ} {ops ops₂ : List Kind} → Calm I Q V′ ops → Made I Q V′ ops Q₂ V₂ ops₂
     → (feed : Whole) → ((q : ℕ) → I ≤ q → feed q ≡ []) → (W W₂ : ℕ → ℕ) → Counted ops feed W → Counted ops₂ feed W₂
     → (is js : List ℕ) → Rest (fires ops) (exec (fires ops) is (begin feed)) → Rest (fires ops₂) (exec (fires ops₂) js (begin feed))
     → (outputs Q₂ ops₂ (exec (fires ops₂) js (begin feed)) ≡ outputs Q ops (exec (fires ops) is (begin feed)))
     × ((k : ℕ) → k < V′ → exec (fires ops₂) js (begin feed) .var k ≡ exec (fires ops) is (begin feed) .var k)
 unfolding sheetOf
-demand-3 {I} {Q} {V′} {Q₂} {V₂} {ops} {ops₂} c x feed z W W₂ w w₂ is js r r₂ =
+model-agrees {I} {Q} {V′} {Q₂} {V₂} {ops} {ops₂} c x feed z W W₂ w w₂ is js r r₂ =
     let m = made x c in
     demand-three I Q V′ Q₂ ops ops₂ (accepted I Q ops (c .acc)) (accepted I Q₂ ops₂ (m .calm .acc)) (m .refines) feed z W W₂ w w₂
     (exec (fires ops) is (begin feed)) (exec (fires ops₂) js (begin feed)) (exec-run (fires ops) is (begin feed)) r

@@ -9,15 +9,13 @@ use native.Mathlib.Omega.{arith}
 use lib.ListN.{length, getD, length-map}
 use lib.Dec.{eqb, ltb}
 use borrow.Author.Tests.{ltb-false, eq-eqb, le-ltb, ne-eqb}
-use Rattle.lists.specs.Lists.{bit}
+use Rattle.lists.specs.Lists.{bit, times}
 use Rattle.lists.proofs.Bits.{bit-or, bit-one}
 use Rattle.theory.proofs.Steps.{Step, names, lineOp}
 use Rattle.theory.proofs.Equations.{Kind, line, latest, double, deal, gather, Queues, Ways, ren, names-append}
 use Rattle.theory.proofs.Denote.{denote}
-use Rattle.theory.proofs.Rewrites.{All, none-left, also, first, rest, all-join, all-left, all-right, all-map, Keeps, down, up}
-use Rattle.theory.proofs.Rewrites.{up-ne, eqb-down}
-use Rattle.theory.proofs.Accept.{tot, tot-append, tot-at, occ, givesN, readsN, holdsN, Ord, ord-end, ord-on}
-use Rattle.theory.proofs.Accept.{ord-head, ord-rest, Acc, accepted, not-input}
+use Rattle.theory.proofs.Rewrites.{All, none-left, also, first, rest, all-join, all-left, all-right, all-map, Keeps, down, up, up-ne, eqb-down}
+use Rattle.theory.proofs.Accept.{tot, tot-append, givesN, readsN, holdsN, Ord, ord-end, ord-on, times-at, ord-head, ord-rest, Acc, not-input}
 use Rattle.theory.proofs.Demand.{Refines}
 use Rattle.theory.proofs.Refine.{fuse-refines, holds-ren}
 
@@ -34,25 +32,24 @@ unfolding readsN givesN Queues
 queue-free m (line p o ss) r g = (bit-zero m p r, bit-zero m o g)
 queue-free m (latest p k f) r g = bit-zero m p r
 queue-free m (double p o o′) r g = (bit-zero m p r, bit-zero m o (omega arith), bit-zero m o′ (omega arith))
-queue-free m (deal c p os) r g = (bit-zero m p r, λ j h. bit-zero m (getD os j 0) (omega (arith, tot-at (λ r. bit (eqb m r)) os j 0 h)))
-queue-free m (gather c o is) r g = (bit-zero m o g, λ j h. bit-zero m (getD is j 0) (omega (arith, tot-at (λ r. bit (eqb m r)) is j 0 h)))
+queue-free m (deal c p os) r g = (bit-zero m p r, λ j h. bit-zero m (getD os j 0) (omega (arith, times-at m os j h)))
+queue-free m (gather c o is) r g = (bit-zero m o g, λ j h. bit-zero m (getD is j 0) (omega (arith, times-at m is j h)))
 
 keeps-of : (m : ℕ) {κs : List Kind} → All Ways κs → All (λ κ. readsN m κ ≡ 0) κs → All (λ κ. givesN m κ ≡ 0) κs → All (Keeps m) κs
 keeps-of m none-left r g = none-left
 keeps-of m (also {x = κ} w a) r g = also (w, queue-free m κ (first r) (first g)) (keeps-of m a (rest r) (rest g))
 
 -- counts of renamed operators
-occ-down : (m : ℕ) (l : List ℕ) (q : ℕ) → ((j : ℕ) → j < length l → getD l j 0 ≢ m) → occ q (map (down m) l) ≡ occ (up m q) l
-unfolding tot
-occ-down m [] q n = refl
-occ-down m (r ∷ l) q n = rw (eqb-down m r q (n 0 (omega arith)), occ-down m l q (λ j h. n (suc j) (omega arith)))
+times-down : (m : ℕ) (l : List ℕ) (q : ℕ) → ((j : ℕ) → j < length l → getD l j 0 ≢ m) → times q (map (down m) l) ≡ times (up m q) l
+times-down m [] q n = refl
+times-down m (r ∷ l) q n = rw (eqb-down m r q (n 0 (omega arith)), times-down m l q (λ j h. n (suc j) (omega arith)))
 
 gives-down : (m q : ℕ) (κ : Kind) → Keeps m κ → givesN q (ren (down m) κ) ≡ givesN (up m q) κ
 unfolding givesN ren Queues
 gives-down m q (line p o ss) k = ap bit (eqb-down m o q (k .1 .1))
 gives-down m q (latest p i f) k = refl
 gives-down m q (double p o o′) k = rw (eqb-down m o q (k .1 .1), eqb-down m o′ q (k .1 .2))
-gives-down m q (deal c p os) k = occ-down m os q (k .1 .1)
+gives-down m q (deal c p os) k = times-down m os q (k .1 .1)
 gives-down m q (gather c o is) k = ap bit (eqb-down m o q (k .1 .0))
 
 reads-down : (m q : ℕ) (κ : Kind) → Keeps m κ → readsN q (ren (down m) κ) ≡ readsN (up m q) κ
@@ -61,7 +58,7 @@ reads-down m q (line p o ss) k = ap bit (eqb-down m p q (k .1 .0))
 reads-down m q (latest p i f) k = ap bit (eqb-down m p q (k .1))
 reads-down m q (double p o o′) k = ap bit (eqb-down m p q (k .1 .0))
 reads-down m q (deal c p os) k = ap bit (eqb-down m p q (k .1 .0))
-reads-down m q (gather c o is) k = occ-down m is q (k .1 .1)
+reads-down m q (gather c o is) k = times-down m is q (k .1 .1)
 
 tot-ren : (m : ℕ) (f g : Kind → ℕ) → ((κ : Kind) → Keeps m κ → f (ren (down m) κ) ≡ g κ) → {κs : List Kind} → All (Keeps m) κs
     → tot f (map (ren (down m)) κs) ≡ tot g κs

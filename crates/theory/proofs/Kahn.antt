@@ -13,8 +13,7 @@ use lib.Dec.{eqb, ltb, lt→ltb}
 use borrow.Author.Tests.{eqb-true, eqb-false, eq-eqb}
 use Rattle.lists.proofs.Tests.{false-of}
 use Rattle.theory.proofs.Runs.{Run, stop, fire, Rest}
-use Rattle.theory.proofs.Model.{T-true, State, Op, Vars, Agree, Local, Can, push, pop, after, fire-can, can-fire, room, fits, step}
-use Rattle.theory.proofs.Model.{stepAt}
+use Rattle.theory.proofs.Model.{T-true, State, Op, Vars, Agree, Local, Can, push, pop, after, fire-can, can-fire, room, fits, step, stepAt}
 use Rattle.theory.proofs.Trace.{mark, shift, tv, tput, ttake, tv-snoc, tput-snoc, ttake-snoc, Ends, one-trace, OpSol}
 
 -- a calm sheet, as far as the theory sees it

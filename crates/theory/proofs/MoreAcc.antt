@@ -10,20 +10,17 @@ use lib.ListN.{getD}
 use lib.Dec.{eqb, ltb}
 use lib.IntN.{pos}
 use borrow.Author.Tests.{eqb-true, eqb-false, ltb-true, ltb-false, eq-eqb, le-ltb, ne-eqb}
-use Rattle.lists.specs.Lists.{bit}
+use Rattle.lists.specs.Lists.{bit, times}
 use Rattle.lists.proofs.Bits.{bit-one, one-bit}
 use Rattle.theory.proofs.Steps.{Item, Step, names, lineOp}
 use Rattle.theory.proofs.Deal.{dealOp, gatherOp}
-use Rattle.theory.proofs.Equations.{Kind, line, latest, double, deal, gather, Queues, Variables, Ways, pure, pruns, bindO, total}
-use Rattle.theory.proofs.Equations.{total-names}
+use Rattle.theory.proofs.Equations.{Kind, line, latest, double, deal, gather, Queues, Variables, Ways, pure, pruns, bindO, total, total-names}
 use Rattle.theory.proofs.Denote.{denote, latestOp, doubleOp}
 use Rattle.theory.proofs.Rewrites.{All, none-left, also, first, rest, all-join, all-left, all-right, range, lines, length-range}
-use Rattle.theory.proofs.Accept.{tot, tot-append, tot-at, occ, givesN, readsN, holdsN, Ord, ord-on}
-use Rattle.theory.proofs.Accept.{ord-head, ord-rest, Acc, accepted, not-input}
+use Rattle.theory.proofs.Accept.{tot, tot-append, givesN, readsN, holdsN, Ord, ord-on, times-at, ord-head, ord-rest, Acc, not-input}
 use Rattle.theory.proofs.Demand.{Refines}
 use Rattle.theory.proofs.Refine.{reorder-refines, split-refines}
-use Rattle.theory.proofs.FuseAcc.{old, old-tot, ord-a, ord-b, ord-right, ord-swap, p≢m, o≢m, m-in, keeps-pre, keeps-mid}
-use Rattle.theory.proofs.FuseAcc.{keeps-post}
+use Rattle.theory.proofs.FuseAcc.{old, old-tot, ord-a, ord-b, ord-right, ord-swap, p≢m, o≢m, m-in, keeps-pre, keeps-mid, keeps-post}
 
 module _ (I Q p m o : ℕ) (a b : List Step) (pre mid post : List Kind) (acc : Acc I Q (old I Q p m o a b pre mid post)) where
   abbrev pub turned : List Kind
@@ -76,31 +73,31 @@ module _ (I Q p m o : ℕ) (a b : List Step) (pre mid post : List Kind) (acc : A
   }
 
 -- split: the new queues are counted by the ranges
-occ-below : (q n x : ℕ) → x < q → occ x (range q n) ≡ 0
-unfolding range tot
-occ-below q zero x h = refl
-occ-below q (suc n) x h = rw (ne-eqb x q (λ e. omega arith)) (omega (arith, occ-below (suc q) n x (omega arith)))
+range-below : (q n x : ℕ) → x < q → times x (range q n) ≡ 0
+unfolding range
+range-below q zero x h = refl
+range-below q (suc n) x h = rw (ne-eqb x q (λ e. omega arith)) (omega (arith, range-below (suc q) n x (omega arith)))
 
-occ-past : (q n x : ℕ) → q + n ≤ x → occ x (range q n) ≡ 0
-unfolding range tot
-occ-past q zero x h = refl
-occ-past q (suc n) x h = rw (ne-eqb x q (λ e. omega arith)) (omega (arith, occ-past (suc q) n x (omega arith)))
+range-past : (q n x : ℕ) → q + n ≤ x → times x (range q n) ≡ 0
+unfolding range
+range-past q zero x h = refl
+range-past q (suc n) x h = rw (ne-eqb x q (λ e. omega arith)) (omega (arith, range-past (suc q) n x (omega arith)))
 
-occ-in : (q n x : ℕ) → q ≤ x → x < q + n → occ x (range q n) ≡ 1
-unfolding range tot
-occ-in q zero x h l = absurd (omega arith)
-occ-in q (suc n) x h l = go (eqb x q) refl (λ h. occ-in (suc q) n x h (omega arith))
+range-once : (q n x : ℕ) → q ≤ x → x < q + n → times x (range q n) ≡ 1
+unfolding range
+range-once q zero x h l = absurd (omega arith)
+range-once q (suc n) x h l = go (eqb x q) refl (λ h. range-once (suc q) n x h (omega arith))
   where
-    go : (b : Bool) → eqb x q ≡ b → (suc q ≤ x → occ x (range (suc q) n) ≡ 1) → bit b + occ x (range (suc q) n) ≡ 1
-    go true e ih = let k = eqb-true x q e in rw (occ-below (suc q) n x (omega arith))
+    go : (b : Bool) → eqb x q ≡ b → (suc q ≤ x → times x (range (suc q) n) ≡ 1) → bit b + times x (range (suc q) n) ≡ 1
+    go true e ih = let k = eqb-true x q e in rw (range-below (suc q) n x (omega arith))
     go false e ih = let k : x ≢ q = eqb-false x q e in omega (arith, ih (omega arith))
 
-gives-lines : (q r n : ℕ) (ss : List Step) (x : ℕ) → tot (givesN x) (lines q r n ss) ≡ occ x (range r n)
+gives-lines : (q r n : ℕ) (ss : List Step) (x : ℕ) → tot (givesN x) (lines q r n ss) ≡ times x (range r n)
 unfolding lines range tot givesN
 gives-lines q r zero ss x = refl
 gives-lines q r (suc n) ss x = ap (λ (k : ℕ). bit (eqb x r) + k) (gives-lines (suc q) (suc r) n ss x)
 
-reads-lines : (q r n : ℕ) (ss : List Step) (x : ℕ) → tot (readsN x) (lines q r n ss) ≡ occ x (range q n)
+reads-lines : (q r n : ℕ) (ss : List Step) (x : ℕ) → tot (readsN x) (lines q r n ss) ≡ times x (range q n)
 unfolding lines range tot readsN
 reads-lines q r zero ss x = refl
 reads-lines q r (suc n) ss x = ap (λ (k : ℕ). bit (eqb x q) + k) (reads-lines (suc q) (suc r) n ss x)
@@ -126,7 +123,7 @@ ord-lines q r (suc n) ss tl h z o = ord-on {κ = line q r ss} {κs = lines (suc 
       arith,
       tot-append (givesN x) (lines (suc q) (suc r) n ss) tl,
       gives-lines (suc q) (suc r) n ss x,
-      occ-below (suc r) n x
+      range-below (suc r) n x
           (omega arith),
       z x (omega arith) (omega arith),
     ))
@@ -166,26 +163,26 @@ module _ (I Q V′ p o k : ℕ) (ss : List Step) (pre post : List Kind) where
       (tot-append f (lines Q (Q + k) k ss) (gather (suc V′) o (range (Q + k) k) ∷ post))
 
   module _ (acc : Acc I Q whole) (hk : 0 < k) (t : total ss ≡ true) (hv : (i : ℕ) → V′ ≤ i → tot (holdsN i) whole ≡ 0) where
-    gives-more : (x : ℕ) → tot (givesN x) split ≡ tot (givesN x) whole + (occ x (range Q k) + occ x (range (Q + k) k))
+    gives-more : (x : ℕ) → tot (givesN x) split ≡ tot (givesN x) whole + (times x (range Q k) + times x (range (Q + k) k))
     unfolding givesN
     gives-more x = omega (arith, whole-tot (givesN x), split-tot (givesN x), gives-lines Q (Q + k) k ss x)
 
-    reads-more : (x : ℕ) → tot (readsN x) split ≡ tot (readsN x) whole + (occ x (range Q k) + occ x (range (Q + k) k))
+    reads-more : (x : ℕ) → tot (readsN x) split ≡ tot (readsN x) whole + (times x (range Q k) + times x (range (Q + k) k))
     unfolding readsN
     reads-more x = omega (arith, whole-tot (readsN x), split-tot (readsN x), reads-lines Q (Q + k) k ss x)
 
-    ranges : (x : ℕ) → Q ≤ x → x < Q + (k + k) → occ x (range Q k) + occ x (range (Q + k) k) ≡ 1
+    ranges : (x : ℕ) → Q ≤ x → x < Q + (k + k) → times x (range Q k) + times x (range (Q + k) k) ≡ 1
     ranges x h l = go (ltb x (Q + k)) refl
       where
-        go : (b : Bool) → ltb x (Q + k) ≡ b → occ x (range Q k) + occ x (range (Q + k) k) ≡ 1
-        go true e = let m = ltb-true x (Q + k) e in omega (arith, occ-in Q k x h m, occ-below (Q + k) k x m)
-        go false e = let m = ltb-false x (Q + k) e in omega (arith, occ-past Q k x m, occ-in (Q + k) k x m (omega arith))
+        go : (b : Bool) → ltb x (Q + k) ≡ b → times x (range Q k) + times x (range (Q + k) k) ≡ 1
+        go true e = let m = ltb-true x (Q + k) e in omega (arith, range-once Q k x h m, range-below (Q + k) k x m)
+        go false e = let m = ltb-false x (Q + k) e in omega (arith, range-past Q k x m, range-once (Q + k) k x m (omega arith))
 
-    ranges-low : (x : ℕ) → x < Q → occ x (range Q k) + occ x (range (Q + k) k) ≡ 0
-    ranges-low x h = omega (arith, occ-below Q k x h, occ-below (Q + k) k x (omega arith))
+    ranges-low : (x : ℕ) → x < Q → times x (range Q k) + times x (range (Q + k) k) ≡ 0
+    ranges-low x h = omega (arith, range-below Q k x h, range-below (Q + k) k x (omega arith))
 
-    ranges-high : (x : ℕ) → Q + (k + k) ≤ x → occ x (range Q k) + occ x (range (Q + k) k) ≡ 0
-    ranges-high x h = omega (arith, occ-past Q k x (omega arith), occ-past (Q + k) k x (omega arith))
+    ranges-high : (x : ℕ) → Q + (k + k) ≤ x → times x (range Q k) + times x (range (Q + k) k) ≡ 0
+    ranges-high x h = omega (arith, range-past Q k x (omega arith), range-past (Q + k) k x (omega arith))
 
     pub p-low : p < Q
     unfolding readsN
@@ -217,7 +214,7 @@ module _ (I Q V′ p o k : ℕ) (ss : List Step) (pre post : List Kind) where
         go true e = ltb-true q Q e
         go false e = absurd (omega (arith, acc .reads-out q (ltb-false q Q e), whole-tot (readsN q)))
 
-    tail-gives : (x : ℕ) → tot (givesN x) tail ≡ occ x (range (Q + k) k) + (givesN x (line p o ss) + tot (givesN x) post)
+    tail-gives : (x : ℕ) → tot (givesN x) tail ≡ times x (range (Q + k) k) + (givesN x (line p o ss) + tot (givesN x) post)
     unfolding givesN tot
     tail-gives x =
         omega (
@@ -231,8 +228,8 @@ module _ (I Q V′ p o k : ℕ) (ss : List Step) (pre post : List Kind) where
     unfolding readsN givesN
     ord-gather = ord-on {κ = gather (suc V′) o (range (Q + k) k)} {κs = post} (λ x h. at x h (ltb x Q) refl) (ord-rest ord-line)
       where
-        at : (x : ℕ) → 1 ≤ occ x (range (Q + k) k) → (b : Bool) → ltb x Q ≡ b → bit (eqb x o) + tot (givesN x) post ≡ 0
-        at x h true e = absurd (omega (arith, occ-below (Q + k) k x (omega (arith, ltb-true x Q e))))
+        at : (x : ℕ) → 1 ≤ times x (range (Q + k) k) → (b : Bool) → ltb x Q ≡ b → bit (eqb x o) + tot (givesN x) post ≡ 0
+        at x h true e = absurd (omega (arith, range-below (Q + k) k x (omega (arith, ltb-true x Q e))))
         at x h false e = omega (arith, gives-out x (ltb-false x Q e) .1, gives-out x (ltb-false x Q e) .2)
 
     ord-split : Ord split
@@ -305,9 +302,9 @@ queue-low Q (line p o ss) r g = (zero-lt Q p r, zero-lt Q o g)
 queue-low Q (latest p k f) r g = zero-lt Q p r
 queue-low Q (double p o o′) r g = (zero-lt Q p r, zero-lt Q o (λ x h. omega (arith, g x h)), zero-lt Q o′ (λ x h. omega (arith, g x h)))
 queue-low Q (deal c p os) r g =
-    (zero-lt Q p r, λ j h. zero-lt Q (getD os j 0) (λ x l. omega (arith, g x l, tot-at (λ r. bit (eqb x r)) os j 0 h)))
+    (zero-lt Q p r, λ j h. zero-lt Q (getD os j 0) (λ x l. omega (arith, g x l, times-at x os j h)))
 queue-low Q (gather c o is) r g =
-    (zero-lt Q o g, λ j h. zero-lt Q (getD is j 0) (λ x l. omega (arith, r x l, tot-at (λ r. bit (eqb x r)) is j 0 h)))
+    (zero-lt Q o g, λ j h. zero-lt Q (getD is j 0) (λ x l. omega (arith, r x l, times-at x is j h)))
 
 var-low : (n : ℕ) (κ : Kind) → ((i : ℕ) → n ≤ i → holdsN i κ ≡ 0) → Variables κ (λ i. i < n)
 unfolding Variables denote lineOp latestOp doubleOp dealOp gatherOp

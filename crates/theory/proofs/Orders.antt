@@ -15,8 +15,7 @@ use Rattle.theory.proofs.Model.{Op, Local, Apart, State, step, diamond}
 use Rattle.theory.proofs.Steps.{Item}
 use Rattle.theory.proofs.Equations.{Kind}
 use Rattle.theory.proofs.Denote.{denote, kind-local, takesFrom}
-use Rattle.theory.proofs.Sheets.{emptyOp, find, opAt, op-at, op-past, inside, empty-own, empty-outs, empty-local, gives, holds}
-use Rattle.theory.proofs.Sheets.{blank}
+use Rattle.theory.proofs.Sheets.{emptyOp, find, opAt, op-at, op-past, inside, empty-own, empty-outs, empty-local, gives, holds, blank}
 
 pub record Calm (ops : List Kind) : Type 0 where
   pub def-once : (i j q : ℕ) → i < length ops → j < length ops → gives (getD ops i blank) q ≡ true → gives (getD ops j blank) q ≡ true

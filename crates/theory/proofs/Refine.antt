@@ -10,15 +10,16 @@ use native.Mathlib.Nat.{zero-add, suc-add}
 use lib.Dec.{eqb, ltb}
 use lib.IntN.{ℤ}
 use borrow.Author.Tests.{eqb-false, ltb-true, ltb-false, eq-eqb, lt-ltb, ne-eqb}
+use Rattle.lists.specs.Lists.{member}
 use Rattle.lists.proofs.Tests.{or-first}
 use Rattle.theory.proofs.Steps.{Item, Step, names, lineOp}
-use Rattle.theory.proofs.Deal.{oneOf, dealOp, gatherOp}
-use Rattle.theory.proofs.Equations.{Kind, line, latest, double, deal, gather, Whole, ren, total, pure, pruns, bindO, names-append}
-use Rattle.theory.proofs.Equations.{total-names, pure-names}
+use Rattle.theory.proofs.Deal.{dealOp, gatherOp}
+use Rattle.theory.proofs.Equations.{Kind, line, latest, double, deal, gather, Whole, ren, total, pure, pruns, bindO, names-append, total-names}
+use Rattle.theory.proofs.Equations.{pure-names}
 use Rattle.theory.proofs.Denote.{denote, takesFrom, latestOp, doubleOp}
 use Rattle.theory.proofs.Sheets.{holds}
-use Rattle.theory.proofs.Rewrites.{All, Keeps, down, up, fuse-all, fuse-read, readBy, read-append, harvest, harvest-down}
-use Rattle.theory.proofs.Rewrites.{swapped, reorder-all, splitH, splitU, Below, split-all, range, lines}
+use Rattle.theory.proofs.Rewrites.{All, Keeps, down, up, fuse-all, fuse-read, readBy, read-append, harvest, harvest-down, swapped, reorder-all, splitH}
+use Rattle.theory.proofs.Rewrites.{splitU, Below, split-all, range, lines}
 use Rattle.theory.proofs.Demand.{Refines, heldBy, harvest-same}
 
 pub held-append : (xs ys : List Kind) (q : ℕ) → heldBy (xs ++ ys) q ≡ (heldBy xs q || heldBy ys q)
@@ -174,17 +175,17 @@ read-lines-in q r (suc n) ss x h l = go (eqb x q) refl (λ h. read-lines-in (suc
     go true e ih = refl
     go false e ih = let k : x ≢ q = eqb-false x q e in ih (omega arith)
 
-range-out : (q n x : ℕ) → x < q → oneOf x (range q n) ≡ false
+range-out : (q n x : ℕ) → x < q → member x (range q n) ≡ false
 unfolding range
 range-out q zero x h = refl
 range-out q (suc n) x h = rw (ne-eqb x q (λ e. omega arith), range-out (suc q) n x (omega arith))
 
-range-in : (q n x : ℕ) → q ≤ x → x < q + n → oneOf x (range q n) ≡ true
+range-in : (q n x : ℕ) → q ≤ x → x < q + n → member x (range q n) ≡ true
 unfolding range
 range-in q zero x h l = absurd (omega arith)
 range-in q (suc n) x h l = go (eqb x q) refl (λ h. range-in (suc q) n x h (omega arith))
   where
-    go : (b : Bool) → eqb x q ≡ b → (suc q ≤ x → oneOf x (range (suc q) n) ≡ true) → (b || oneOf x (range (suc q) n)) ≡ true
+    go : (b : Bool) → eqb x q ≡ b → (suc q ≤ x → member x (range (suc q) n) ≡ true) → (b || member x (range (suc q) n)) ≡ true
     go true e ih = refl
     go false e ih = let k : x ≢ q = eqb-false x q e in ih (omega arith)
 
@@ -242,7 +243,7 @@ module _ (I Q V′ p o k : ℕ) (ss : List Step) (pre post : List Kind) (Hx : Wh
       old = pre ++ (line p o ss ∷ post)
 
       shape : (q : ℕ) → readBy new q ≡ (readBy pre q ||
-          (eqb q p || (readBy (lines Q (Q + k) k ss) q || (oneOf q (range (Q + k) k) || readBy post q))))
+          (eqb q p || (readBy (lines Q (Q + k) k ss) q || (member q (range (Q + k) k) || readBy post q))))
       shape q = rw (read-append pre tail q, read-append (lines Q (Q + k) k ss) (gather (suc V′) o (range (Q + k) k) ∷ post) q)
 
       old-read : (q : ℕ) → q < Q → readBy new q ≡ readBy old q
@@ -253,10 +254,10 @@ module _ (I Q V′ p o k : ℕ) (ss : List Step) (pre post : List Kind) (Hx : Wh
       fresh-read q h l = shape q ∙ go (ltb q (Q + k)) refl
         where
           go : (b : Bool) → ltb q (Q + k) ≡ b
-              → (readBy pre q || (eqb q p || (readBy (lines Q (Q + k) k ss) q || (oneOf q (range (Q + k) k) || readBy post q)))) ≡ true
+              → (readBy pre q || (eqb q p || (readBy (lines Q (Q + k) k ss) q || (member q (range (Q + k) k) || readBy post q)))) ≡ true
           go true e =
               rw (read-lines-in Q (Q + k) k ss q h (ltb-true q (Q + k) e))
-              (or-true₃ (readBy pre q) (eqb q p) (oneOf q (range (Q + k) k) || readBy post q))
+              (or-true₃ (readBy pre q) (eqb q p) (member q (range (Q + k) k) || readBy post q))
           go false e =
               let m = ltb-false q (Q + k) e in
               rw (range-in (Q + k) k q m (omega arith))

@@ -4,16 +4,17 @@ use mathlib.Core.Path.{_≡_, refl, ap, sym, _∙_, subst, subst₂}
 use mathlib.Core.Bool.{Bool, true, false, cond, _||_, or-assoc}
 use mathlib.Core.Logic.{_≢_}
 use mathlib.Core.List.{List, [], _∷_, _++_, map}
-use Prim.Native.Nat.{ℕ, zero, suc, pred, _+_, _-_, _≤_, _<_}
+use Prim.Native.Nat.{ℕ, zero, suc, _+_, _-_, _≤_, _<_}
 use native.Mathlib.Omega.{arith}
 use lib.ListN.{length, getD}
 use lib.Dec.{eqb, ltb}
 use lib.IntN.{ℤ, pos}
 use borrow.Author.Tests.{eqb-true, eqb-false, ltb-true, ltb-false, lt-ltb, le-ltb, eq-eqb, ne-eqb}
+use Rattle.lists.specs.Lists.{member}
 use Rattle.theory.proofs.Steps.{Item, Step, names, lout}
-use Rattle.theory.proofs.Deal.{dealt, turn, oneOf}
-use Rattle.theory.proofs.Equations.{Kind, line, latest, double, deal, gather, nought, Whole, Eq, Queues, Variables, Ways, ren}
-use Rattle.theory.proofs.Equations.{image, total, pure, pruns, bindO}
+use Rattle.theory.proofs.Deal.{shareOf, turn}
+use Rattle.theory.proofs.Equations.{Kind, line, latest, double, deal, gather, nought, Whole, Eq, Queues, Variables, Ways, ren, image, total, pure, pruns}
+use Rattle.theory.proofs.Equations.{bindO}
 use Rattle.theory.proofs.EquationLaws.{eq-ren, fuse-eq, reorder-eq, split-deal, split-line, split-gather}
 use Rattle.theory.proofs.Denote.{takesFrom}
 
@@ -60,17 +61,17 @@ all-both (also p a) b = also (p, first b) (all-both a (rest b))
 
 -- queue m goes; higher numbers fall by one
 abbrev pub down : ℕ → ℕ → ℕ
-down m q = cond (ltb q m) q (pred q)
+down m q = cond (ltb m q) (q - 1) q
 
 abbrev pub up : ℕ → ℕ → ℕ
 up m q = cond (ltb q m) q (suc q)
 
 pub up-down : (m q : ℕ) → q ≢ m → up m (down m q) ≡ q
-up-down m q n = go (ltb q m) refl
+up-down m q n = go (ltb m q) refl
   where
-    go : (b : Bool) → ltb q m ≡ b → up m (cond b q (pred q)) ≡ q
-    go true e = rw e
-    go false e = let l = ltb-false q m e in let z : suc (pred q) ≡ q = omega arith in rw (le-ltb (pred q) m (omega arith)) z
+    go : (b : Bool) → ltb m q ≡ b → up m (cond b (q - 1) q) ≡ q
+    go true e = let l = ltb-true m q e in let z : suc (q - 1) ≡ q = omega arith in rw (le-ltb (q - 1) m (omega arith)) z
+    go false e = let l = ltb-false m q e in rw (lt-ltb q m (omega arith))
 
 abbrev pub Keeps : ℕ → Kind → Type 0
 Keeps m κ = Ways κ × Queues κ (λ r. r ≢ m)
@@ -135,8 +136,8 @@ down-up : (m q : ℕ) → down m (up m q) ≡ q
 down-up m q = go (ltb q m) refl
   where
     go : (b : Bool) → ltb q m ≡ b → down m (cond b q (suc q)) ≡ q
-    go true e = rw e
-    go false e = let l = ltb-false q m e in let z : pred (suc q) ≡ q = omega arith in rw (le-ltb (suc q) m (omega arith)) z
+    go true e = let l = ltb-true q m e in rw (le-ltb m q (omega arith))
+    go false e = let l = ltb-false q m e in let z : suc q - 1 ≡ q = omega arith in rw (lt-ltb m (suc q) (omega arith)) z
 
 pub up-ne : (m q : ℕ) → up m q ≢ m
 up-ne m q = go (ltb q m) refl
@@ -157,9 +158,9 @@ eqb-iff a b c d f g = go (eqb a b) refl (eqb c d) refl
 pub eqb-down : (m p q : ℕ) → p ≢ m → eqb q (down m p) ≡ eqb (up m q) p
 eqb-down m p q n = eqb-iff q (down m p) (up m q) p (λ e. ap (up m) e ∙ up-down m p n) (λ e. sym (down-up m q) ∙ ap (down m) e)
 
-oneOf-down : (m : ℕ) (is : List ℕ) (q : ℕ) → ((j : ℕ) → j < length is → getD is j 0 ≢ m) → oneOf q (map (down m) is) ≡ oneOf (up m q) is
-oneOf-down m [] q n = refl
-oneOf-down m (i ∷ is) q n = rw (eqb-down m i q (n 0 (omega arith)), oneOf-down m is q (λ j h. n (suc j) (omega arith)))
+member-down : (m : ℕ) (is : List ℕ) (q : ℕ) → ((j : ℕ) → j < length is → getD is j 0 ≢ m) → member q (map (down m) is) ≡ member (up m q) is
+member-down m [] q n = refl
+member-down m (i ∷ is) q n = rw (eqb-down m i q (n 0 (omega arith)), member-down m is q (λ j h. n (suc j) (omega arith)))
 
 takes-down : (m : ℕ) (κ : Kind) (q : ℕ) → Keeps m κ → takesFrom (ren (down m) κ) q ≡ takesFrom κ (up m q)
 unfolding takesFrom ren Queues
@@ -167,7 +168,7 @@ takes-down m (line p o ss) q k = eqb-down m p q (k .1 .0)
 takes-down m (latest p i f) q k = eqb-down m p q (k .1)
 takes-down m (double p o o′) q k = eqb-down m p q (k .1 .0)
 takes-down m (deal c p os) q k = eqb-down m p q (k .1 .0)
-takes-down m (gather c o is) q k = oneOf-down m is q (k .1 .1)
+takes-down m (gather c o is) q k = member-down m is q (k .1 .1)
 
 read-down : (m : ℕ) {κs : List Kind} (q : ℕ) → All (Keeps m) κs → readBy (map (ren (down m)) κs) q ≡ readBy κs (up m q)
 unfolding readBy
@@ -298,7 +299,7 @@ all-lines P q r (suc n) ss f =
 
 module _ (p o k : ℕ) (Q V′ : ℕ) (ss : List Step) (pre post : List Kind) (H : Whole) (u : ℕ → ℤ) where
   abbrev pub dealing : ℕ → List Item
-  dealing j = dealt k j 0 (H p)
+  dealing j = shareOf k j 0 (H p)
 
   abbrev pub splitH : Whole
   splitH q = cond (ltb q Q) (H q) (cond (ltb q (Q + k)) (dealing (q - Q)) (map (image ss) (dealing (q - (Q + k)))))
@@ -356,13 +357,13 @@ module _ (p o k : ℕ) (Q V′ : ℕ) (ss : List Step) (pre post : List Kind) (H
       ho : splitH o ≡ H o
       ho = low o lo
 
-      hd : (j : ℕ) → j < length os → splitH (getD os j 0) ≡ dealt (length os) j 0 (H p)
-      hd j h = let l : j < k = rw n at h in ap splitH (range-at Q k j l) ∙ middle j l ∙ ap (λ (n : ℕ). dealt n j 0 (H p)) (sym n)
+      hd : (j : ℕ) → j < length os → splitH (getD os j 0) ≡ shareOf (length os) j 0 (H p)
+      hd j h = let l : j < k = rw n at h in ap splitH (range-at Q k j l) ∙ middle j l ∙ ap (λ (n : ℕ). shareOf n j 0 (H p)) (sym n)
 
-      hm : (j : ℕ) → j < length os → splitH (getD is j 0) ≡ map (image ss) (dealt (length os) j 0 (H p))
+      hm : (j : ℕ) → j < length os → splitH (getD is j 0) ≡ map (image ss) (shareOf (length os) j 0 (H p))
       hm j h =
           let l : j < k = rw n at h in ap splitH (range-at (Q + k) k j l) ∙ high j l
-          ∙ ap (λ (n : ℕ). map (image ss) (dealt n j 0 (H p))) (sym n)
+          ∙ ap (λ (n : ℕ). map (image ss) (shareOf n j 0 (H p))) (sym n)
 
       turned : (i : ℕ) → V′ ≤ i → splitU i ≡ pos (turn (length os) 0 (H p))
       turned i h = rw (le-ltb i V′ h) (ap (λ (n : ℕ). pos (turn n 0 (H p))) (sym n))

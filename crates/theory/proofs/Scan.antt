@@ -14,8 +14,7 @@ use Rattle.theory.proofs.Equations.{Kind, Ways}
 use Rattle.theory.proofs.Denote.{takesFrom}
 use Rattle.theory.proofs.Sheets.{gives}
 use Rattle.theory.proofs.Rewrites.{All, none-left, also}
-use Rattle.theory.proofs.Accept.{tot, givesN, readsN, holdsN, Ord, ord-end, ord-on, Acc, gives-one, not-gives}
-use Rattle.theory.proofs.Accept.{not-reads, reads-one}
+use Rattle.theory.proofs.Accept.{tot, givesN, readsN, holdsN, Ord, ord-end, ord-on, Acc, gives-one, not-gives, not-reads, reads-one}
 
 pub record Passes (Q : ℕ) (d r : ℕ → Bool) (κ : Kind) : Type 0 where
   pub ways : Ways κ

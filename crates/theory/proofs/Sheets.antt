@@ -10,18 +10,17 @@ use lib.ListN.{length, length-map, getD, List·getD-map, List·getD-eq-default}
 use lib.Dec.{eqb, ltb}
 use lib.IntN.{ℤ}
 use borrow.Author.Tests.{eqb-false, ltb-true, ltb-false, eq-eqb}
+use Rattle.lists.specs.Lists.{member}
 use Rattle.lists.proofs.Places.{getD-any}
+use Rattle.lists.proofs.Members.{member-at}
+use Rattle.effect.specs.Effect.{natOf}
 use Rattle.theory.proofs.Model.{Op, Local}
 use Rattle.theory.proofs.Trace.{OpSol}
 use Rattle.theory.proofs.Steps.{Item, lineOp}
 use Rattle.theory.proofs.Kahn.{Sheet, Sol}
-use Rattle.theory.proofs.Deal.{natOf, oneOf, one-of, dealOp, gatherOp}
+use Rattle.theory.proofs.Deal.{dealOp, gatherOp}
 use Rattle.theory.proofs.Equations.{Kind, line, latest, double, deal, gather, nought, Whole, Eq}
 use Rattle.theory.proofs.Denote.{denote, kind-local, takesFrom, Good, sol-eq, eq-sol, latestOp, doubleOp}
-
-abbrev bump : Option ℕ → Option ℕ
-bump none = none
-bump (some i) = some (suc i)
 
 abbrev pub found : Bool → Option ℕ → Option ℕ
 found true o = some 0
@@ -140,10 +139,10 @@ sel-takes (double p o o′) g v = eq-eqb p p refl
 sel-takes (deal c p os) g v = eq-eqb p p refl
 sel-takes (gather c o is) g v = go (ltb (natOf (v c)) (length is)) refl
   where
-    go : (b : Bool) → ltb (natOf (v c)) (length is) ≡ b → oneOf (getD is (natOf (v c)) (getD is 0 0)) is ≡ true
+    go : (b : Bool) → ltb (natOf (v c)) (length is) ≡ b → member (getD is (natOf (v c)) (getD is 0 0)) is ≡ true
     go true e =
-        let l = ltb-true (natOf (v c)) (length is) e in rw (getD-any is (natOf (v c)) (getD is 0 0) 0 l) (one-of is (natOf (v c)) l)
-    go false e = rw (List·getD-eq-default is (getD is 0 0) (ltb-false (natOf (v c)) (length is) e)) (one-of is 0 (g .0))
+        let l = ltb-true (natOf (v c)) (length is) e in rw (getD-any is (natOf (v c)) (getD is 0 0) 0 l) (member-at is (natOf (v c)) l)
+    go false e = rw (List·getD-eq-default is (getD is 0 0) (ltb-false (natOf (v c)) (length is) e)) (member-at is 0 (g .0))
 
 module _ (I Q : ℕ) (ops : List Kind) (acc : Accepted I Q ops) where
   abbrev pub readerOf : ℕ → Option ℕ

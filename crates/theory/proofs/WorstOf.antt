@@ -8,13 +8,16 @@ use native.Mathlib.Omega.{arith}
 use lib.ListN.{length, getD}
 use lib.Dec.{eqb}
 use borrow.Author.Tests.{eq-eqb}
+use Rattle.lists.specs.Lists.{member, times}
 use Rattle.lists.proofs.Bits.{bit-false, bit-one}
+use Rattle.lists.proofs.Times.{times-member}
+use Rattle.lists.proofs.Members.{member-at}
+use Rattle.lists.proofs.Tests.{false-of}
 use Rattle.theory.proofs.Kahn.{sum}
-use Rattle.theory.proofs.Deal.{oneOf, one-of}
 use Rattle.theory.proofs.Equations.{Kind, line, latest, double, deal, gather, Queues, Ways}
 use Rattle.theory.proofs.Counts.{WEq, rounded-up}
 use Rattle.theory.proofs.Rewrites.{All, none-left, also, first, rest}
-use Rattle.theory.proofs.Accept.{tot, occ, givesN, readsN, Ord, ord-head, ord-rest, occ-one}
+use Rattle.theory.proofs.Accept.{tot, givesN, readsN, Ord, ord-head, ord-rest}
 
 abbrev pub upn : ℕ → ℕ → (ℕ → ℕ) → ℕ → ℕ
 upn o n W q = cond (eqb q o) n (W q)
@@ -23,26 +26,22 @@ unfoldable pub wput : Kind → (ℕ → ℕ) → ℕ → ℕ
 wput (line p o ss) W = upn o (W p) W
 wput (latest p k f) W = W
 wput (double p o o′) W = λ q. cond (eqb q o || eqb q o′) (W p) (W q)
-wput (deal c p os) W = λ q. cond (oneOf q os) ((W p + (length os - 1)) / length os) (W q)
+wput (deal c p os) W = λ q. cond (member q os) ((W p + (length os - 1)) / length os) (W q)
 wput (gather c o is) W = upn o (sum (length is) (λ j. W (getD is j 0))) W
 
 unfoldable pub worstOf : (ℕ → ℕ) → List Kind → ℕ → ℕ
 worstOf W [] = W
 worstOf W (κ ∷ κs) = worstOf (wput κ W) κs
 
-occ-false : (q : ℕ) (l : List ℕ) → occ q l ≡ 0 → oneOf q l ≡ false
-occ-false q l h = go (oneOf q l) refl
-  where
-    go : (b : Bool) → oneOf q l ≡ b → b ≡ false
-    go true e = absurd (omega (arith, occ-one q l e))
-    go false e = refl
+times-none : (q : ℕ) (l : List ℕ) → times q l ≡ 0 → member q l ≡ false
+times-none q l h = false-of (member q l) (λ m. omega (arith, times-member q l m))
 
 wput-frame : (κ : Kind) (W : ℕ → ℕ) (q : ℕ) → givesN q κ ≡ 0 → wput κ W q ≡ W q
 unfolding wput givesN
 wput-frame (line p o ss) W q h = rw (bit-false (eqb q o) h)
 wput-frame (latest p k f) W q h = refl
 wput-frame (double p o o′) W q h = rw (bit-false (eqb q o) (omega arith), bit-false (eqb q o′) (omega arith))
-wput-frame (deal c p os) W q h = rw (occ-false q os h)
+wput-frame (deal c p os) W q h = rw (times-none q os h)
 wput-frame (gather c o is) W q h = rw (bit-false (eqb q o) h)
 
 pub worst-frame : (ops : List Kind) (W : ℕ → ℕ) (q : ℕ) → tot (givesN q) ops ≡ 0 → worstOf W ops q ≡ W q
@@ -61,9 +60,9 @@ queue-all (double p o o′) P f g = (
       (omega (arith, bit-one (eqb o′ o′) (eq-eqb o′ o′ refl))),
 )
 queue-all (deal c p os) P f g =
-    (f p (bit-one (eqb p p) (eq-eqb p p refl)), λ j h. g (getD os j 0) (occ-one (getD os j 0) os (one-of os j h)))
+    (f p (bit-one (eqb p p) (eq-eqb p p refl)), λ j h. g (getD os j 0) (times-member (getD os j 0) os (member-at os j h)))
 queue-all (gather c o is) P f g =
-    (g o (bit-one (eqb o o) (eq-eqb o o refl)), λ j h. f (getD is j 0) (occ-one (getD is j 0) is (one-of is j h)))
+    (g o (bit-one (eqb o o) (eq-eqb o o refl)), λ j h. f (getD is j 0) (times-member (getD is j 0) is (member-at is j h)))
 
 sum-ext : (n : ℕ) (f g : ℕ → ℕ) → ((k : ℕ) → k < n → f k ≡ g k) → sum n f ≡ sum n g
 unfolding sum
@@ -84,10 +83,10 @@ weq-own (double p o o′) W w h =
     go true = refl
     go false = refl
 weq-own (deal c p os) W w h = λ j l.
-    rw (occ-false p os (h p (bit-one (eqb p p) (eq-eqb p p refl))), one-of os j l) (rounded-up (W p) (length os) j w l)
+    rw (times-none p os (h p (bit-one (eqb p p) (eq-eqb p p refl))), member-at os j l) (rounded-up (W p) (length os) j w l)
 weq-own (gather c o is) W w h =
     rw (eq-eqb o o refl) (sum-ext (length is) (λ j. W (getD is j 0)) (λ j. upn o (sum (length is) (λ j. W (getD is j 0))) W (getD is j 0))
-    (λ j l. rw (bit-false (eqb (getD is j 0) o) (h (getD is j 0) (occ-one (getD is j 0) is (one-of is j l))))))
+    (λ j l. rw (bit-false (eqb (getD is j 0) o) (h (getD is j 0) (times-member (getD is j 0) is (member-at is j l))))))
 
 weq-same : (κ : Kind) (W W′ : ℕ → ℕ) → Queues κ (λ r. W′ r ≡ W r) → WEq κ W → WEq κ W′
 unfolding WEq Queues

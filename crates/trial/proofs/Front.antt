@@ -15,7 +15,8 @@ use Rattle.lists.proofs.Build.{same-or}
 use Rattle.operator.specs.Op.{Abstract}
 use Rattle.judge.specs.Judge.{known, whole}
 use Rattle.format.specs.Record.{opBytes}
-use Rattle.format.specs.Head.{OPERATORS, HEAD_BYTES, headNumber, headGood}
+use Rattle.bounds.specs.Bounds.{OPERATORS}
+use Rattle.format.specs.Head.{HEAD_BYTES, headNumber, headGood}
 use Rattle.format.proofs.Heads.{ranges-of-good, head-good-of-number, head-room, head-number-most}
 use Rattle.sheet.specs.declared.Answer.the-variants.{Done, RefusedAt}
 use Rattle.sheet.specs.declared.Sheet.{Sheet}
@@ -24,19 +25,19 @@ use Rattle.sheet.specs.Sheet.{viewSheet, memorySheet}
 use Rattle.sheet.specs.Check.{Kept, stopped, kept, nextRecord, checkOf}
 use Rattle.sheet.proofs.Accepted.{facts-accepted}
 use Rattle.sheet.proofs.AnswerLaws.{same-refusal, accepted-apart}
-use Rattle.codec.specs.declared.Front.{Front}
-use Rattle.codec.specs.Read.{readFrom, headIn, frontOf, frontAnswer, frontSheet, frontEnd, frontWhole}
-use Rattle.codec.specs.Fronts.{Fronts}
-use Rattle.codec.proofs.Follow.{withAll}
+use Rattle.codec_read.specs.declared.Front as codec
+use Rattle.codec_read.specs.Read.{readFrom, headIn, frontOf, frontAnswer, frontSheet, frontEnd, frontWhole}
+use Rattle.codec_read.specs.Fronts.{Fronts}
+use Rattle.codec_read.proofs.Follow.{withAll}
 use Rattle.sheet.proofs.Placed.{view-back}
-use Rattle.codec.proofs.InMemory.{accepted-memory}
-use Rattle.codec.proofs.Chain.{Holds, Halts, read-cases}
-use Rattle.codec.proofs.Reading.{front-good, front-bad}
+use Rattle.codec_read.proofs.InMemory.{accepted-memory}
+use Rattle.codec_read.proofs.Chain.{Holds, Halts, read-cases}
+use Rattle.codec_read.proofs.Reading.{front-good, front-bad}
+use Rattle.bench_records.specs.Records.{start, feedsFrom}
 use Rattle.trial.specs.declared.Tried.{Tried}
-use Rattle.trial.specs.Records.{feedsFrom}
-use Rattle.trial.specs.Trial.{refusal, fedTrial, start, keptTrial, INPUT, trialOf}
-use Rattle.trial.specs.Tries.{Tries}
-use Rattle.trial.proofs.Ending.{refused-tells}
+use Rattle.trial.specs.Trial.{refusal, fedTrial, keptTrial, INPUT, trialOf}
+use Rattle.trial.specs.Tries.{triedOf, Tries, WholeFront, trialAfter}
+use Rattle.trial.proofs.Ending.{refused-tries}
 
 -- what is kept of the front: a good head, operators that follow each other, and the bytes after them
 pub record Keeps (s : List ℕ) (a : Abstract) (rest : List ℕ) : Type 0 where
@@ -109,7 +110,7 @@ stopped-apart : (m p n q : ℕ) → stopped m p ≡ stopped n q → (m ≡ n) ×
 stopped-apart m p n q e = (cc, cc)
 
 -- no refusal of the front is 0
-front-stops : (s : List ℕ) (number spot : ℕ) → frontOf s ≡ stopped number spot → number ≡ 0 → ⊥
+pub front-stops : (s : List ℕ) (number spot : ℕ) → frontOf s ≡ stopped number spot → number ≡ 0 → ⊥
 front-stops s number spot e o =
     ⊎-elim
     (λ (z : headNumber s ≡ 0).
@@ -151,21 +152,17 @@ pub input-front : (s : List ℕ) (k : Kept) → length s ≤ INPUT → frontOf s
 unfolding trialOf
 input-front s k l e = rw (le-leb (length s) INPUT l) (ap keptTrial e)
 
-module _ (s : List ℕ) (l : length s ≤ INPUT) (f : Front) (h : Fronts s f) where
+module _ (s : List ℕ) (l : length s ≤ INPUT) (f : codec.Front) (h : Fronts s f) where
   -- the sheet is refused
-  refused-as : (k : Kept) (number spot : ℕ) → frontOf s ≡ k → f .answer ≡ RefusedAt number spot →
-      (number ≡ 0 → ⊥) × (trialOf s ≡ refusal number spot)
+  refused-as : (k : Kept) (number spot : ℕ) → frontOf s ≡ k → f .answer ≡ RefusedAt number spot → trialOf s ≡ refusal number spot
   refused-as (stopped m p) number spot e d =
       let q = same-refusal m number p spot (sym (h .answer ∙ ap frontAnswer e) ∙ ap paper d) in
-      (λ z. front-stops s m p e (q .0 ∙ z), input-front s (stopped m p) l e ∙ ap (λ (k : ℕ). refusal k p) (q .0) ∙ ap (refusal number) (q .1))
+      input-front s (stopped m p) l e ∙ ap (λ (k : ℕ). refusal k p) (q .0) ∙ ap (refusal number) (q .1)
   refused-as (kept a rest) number spot e d = absurd (accepted-apart number spot (sym (h .answer ∙ ap frontAnswer e) ∙ ap paper d))
 
-  pub front-refused : (number spot : ℕ) (r : Tried) (st : List ℤ) → f .answer ≡ RefusedAt number spot →
-      (r .number ≡ number) × (r .spot ≡ spot) →
-      Tries (trialOf s) r st
-  front-refused number spot r st d q =
-      let p = refused-as (frontOf s) number spot refl d in
-      refused-tells (trialOf s) r st number spot (p .1) (p .0) q
+  pub front-refused : (number spot : ℕ) (r : Tried) (st : List ℤ) → f .answer ≡ RefusedAt number spot → r ≡ triedOf (refusal number spot) →
+      Tries (trialOf s) st r st
+  front-refused number spot r st d q = refused-tries (trialOf s) number spot (refused-as (frontOf s) number spot refl d) r st q
 
   -- the sheet is read, and a queue is never defined
   gap-as : (k : Kept) → frontOf s ≡ k → f .answer ≡ Done → f .whole ≡ false → trialOf s ≡ refusal 5 (f .sheet .count + 1)
@@ -178,16 +175,13 @@ module _ (s : List ℕ) (l : length s ≤ INPUT) (f : Front) (h : Fronts s f) wh
       ∙ ap (refusal 5) n
 
   pub front-gap : (spot : ℕ) (r : Tried) (st : List ℤ) → f .answer ≡ Done → f .whole ≡ false → spot ≡ f .sheet .count + 1 →
-      (r .number ≡ 5) × (r .spot ≡ spot) → Tries (trialOf s) r st
-  front-gap spot r st d w e q =
-      refused-tells (trialOf s) r st 5 spot (gap-as (frontOf s) refl d w ∙ ap (refusal 5) (sym e)) (λ z. omega arith) q
+      r ≡ triedOf (refusal 5 spot) → Tries (trialOf s) st r st
+  front-gap spot r st d w e q = refused-tries (trialOf s) 5 spot (gap-as (frontOf s) refl d w ∙ ap (refusal 5) (sym e)) r st q
 
   -- the sheet is read whole
   pub record Whole : Type 0 where
-    pub sheet : checkOf (f .sheet) ≡ accepted
-    pub inside : f .end ≤ length s
-    pub trial : fedTrial (viewSheet (f .sheet))
-        (feedsFrom (length (drop (f .end) s)) (viewSheet (f .sheet)) start (f .sheet .count + 1) (drop (f .end) s)) ≡ trialOf s
+    pub front : WholeFront (f .sheet) (f .end) s
+    pub trial : trialAfter (f .sheet) (drop (f .end) s) ≡ trialOf s
 
   whole-as : (k : Kept) → ((j : ℕ) → getD s j 0 < 256) → frontOf s ≡ k → f .answer ≡ Done → f .whole ≡ true → Whole
   whole-as (stopped m p) below e d w = absurd (accepted-apart m p (sym (ap paper d) ∙ h .answer ∙ ap frontAnswer e))
@@ -200,8 +194,7 @@ module _ (s : List ℕ) (l : length s ≤ INPUT) (f : Front) (h : Fronts s f) wh
       let i : f .end ≡ length s - length rest = h .end ∙ ap (frontEnd (length s)) e in
       let q : drop (f .end) s ≡ rest = ap (λ (j : ℕ). drop j s) i ∙ sym (g .after) in
       record {
-        sheet = ap checkOf t ∙ g .accepted v;
-        inside = omega arith;
+        front = record { sheet = ap checkOf t ∙ g .accepted v; same = ap memorySheet x ∙ sym t; inside = omega arith; short = l };
         trial =
             ap (λ (b : Abstract). fedTrial b (feedsFrom (length (drop (f .end) s)) b start (f .sheet .count + 1) (drop (f .end) s))) x
             ∙ ap (λ (u : List ℕ). fedTrial a (feedsFrom (length u) a start (f .sheet .count + 1) u)) q

@@ -9,7 +9,7 @@ use native.Mathlib.Nat.{mod-lt}
 use native.Mathlib.Omega.{arith}
 use lib.Dec.{lit<}
 use lib.ListN.{length, getD, set, drop, replicate}
-use lib.Seq.{getD-set-same, getD-set-other, set-out, getD-drop}
+use lib.Seq.{getD-set-same, getD-set-other, set-out}
 use lib.IntN.{ℤ, pos}
 use lib.Signed.{mag}
 use mir.Syntax.{w32}
@@ -23,8 +23,7 @@ use Rattle.step.specs.declared.Func.the-variants.{None, Keep, Add, Copy, Count,
 use Rattle.step.specs.declared.Step.{Step}
 use Rattle.operator.specs.Op.{Op, line, latest, double, deal, gather, Abstract}
 use Rattle.operator.proofs.ViewLaws.{Small}
-use Rattle.format.specs.Head.{VARIABLES}
-use Rattle.store.specs.Store.{QUEUES}
+use Rattle.bounds.specs.Bounds.{VARIABLES, QUEUES, FIELDS}
 use Rattle.store.specs.declared.Item.{Item}
 use Rattle.effect.specs.declared.Flow.{Flow}
 use Rattle.effect.specs.Flow.{fieldOf, varOf, addOf, does, stepped, lined}
@@ -32,8 +31,9 @@ use Rattle.effect.specs.Effect.{Result, effect, cursorAt}
 use Rattle.machine.specs.Machine.{Machine, Outcome, refuse, done, putAll, fireM, feedM, Ran, ranOn, runFrom}
 use Rattle.machine.proofs.Firing.{fire-takes-one, feed-puts-one}
 use Rattle.machine.proofs.Sound.{opIn, Sound}
-use Rattle.trial.specs.Records.{itemAt}
-use Rattle.trial.specs.Trial.{start}
+use Rattle.bench_records.specs.Records.{itemAt, start}
+use Rattle.format.specs.Record.{HEADER}
+use Rattle.format.proofs.Fronts.{drop-below}
 
 -- ---- a property of every element, and of the one past the end
 
@@ -184,9 +184,6 @@ bits-small s b = omega (arith, b 0, b 1, b 2, b 3)
 int-narrow : (s : List ℕ) → ((k : ℕ) → getD s k 0 < 256) → Narrow (intOf s)
 int-narrow s b = sfits-toZ {w = w32} (record { fits = bits-small s b }) .sfits
 
-pub drop-below : (n : ℕ) (s : List ℕ) → ((k : ℕ) → getD s k 0 < 256) → (k : ℕ) → getD (drop n s) k 0 < 256
-drop-below n s b k = rw (getD-drop n s k 0) (b (n + k))
-
 built-narrow : (n : ℕ) (g : ℕ → ℤ) → ((k : ℕ) → Narrow (g k)) → NarrowAll (build n g)
 built-narrow zero g h k = zero-narrow
 built-narrow (suc n) g h zero = h 0
@@ -194,7 +191,9 @@ built-narrow (suc n) g h (suc k) = built-narrow n (λ (j : ℕ). g (suc j)) (λ 
 
 pub item-narrow : (s : List ℕ) → ((k : ℕ) → getD s k 0 < 256) → NarrowItem (itemAt s)
 unfolding itemAt
-item-narrow s b = built-narrow 4 (λ (k : ℕ). intOf (drop (5 + 4 * k) s)) (λ k. int-narrow (drop (5 + 4 * k) s) (drop-below (5 + 4 * k) s b))
+item-narrow s b =
+    built-narrow FIELDS (λ (k : ℕ). intOf (drop (HEADER + 1 + 4 * k) s))
+    (λ k. int-narrow (drop (HEADER + 1 + 4 * k) s) (drop-below (HEADER + 1 + 4 * k) s b))
 
 -- ---- a fresh start
 

@@ -13,22 +13,29 @@ use Rattle.lists.proofs.Build.{order, same-or}
 use Rattle.operator.specs.Op.{Abstract}
 use Rattle.judge.specs.Judge.{known, whole}
 use Rattle.format.specs.Record.{cut}
-use Rattle.sheet.specs.Sheet.{memorySheet}
-use Rattle.sheet.specs.Check.{Kept, stopped, kept, nextRecord}
-use Rattle.codec.specs.Read.{frontOf}
+use Rattle.bounds.specs.Bounds.{OPERATORS}
+use Rattle.sheet.specs.Answer.{accepted}
+use Rattle.sheet.specs.Sheet.{viewSheet, memorySheet}
+use Rattle.sheet.specs.Check.{Kept, stopped, kept, nextRecord, checkOf}
+use Rattle.codec_read.specs.Read.{frontOf}
 use Rattle.machine.specs.Machine.{Machine, Outcome, refuse, done, full, feedM, Ran, runM}
 use Rattle.machine.specs.Numbers.{GoodM}
 use Rattle.machine.proofs.FreshLaws.{fresh-good}
 use Rattle.machine.proofs.Keeps.{feed-keeps, run-keeps}
 use Rattle.machine.proofs.RunLaws.{run-counts}
 use Rattle.machine.proofs.Sound.{Sound, sound-of-accepted}
-use Rattle.trial.specs.Records.{kindAt, queueAt, itemAt, feedBody, feedBytes, firingKind, firingBody, firingBytes, isFeed, feedNext, firingNumber}
-use Rattle.trial.specs.Records.{Feeds, unfed, fed, feedsFrom, Firings, unfired, firings, before, firingsFrom}
-use Rattle.trial.specs.Trial.{Trial, refusal, figuresOf, firedTrial, fedTrial, start, keptTrial, INPUT, trialOf}
-use Rattle.trial.proofs.Listing.{firings-end, firings-stop, firings-next}
-use Rattle.trial.proofs.Feeding.{whole-body, item-wide, feeds-over, feeds-by}
-use Rattle.trial.proofs.Front.{front-keeps, front-small, input-long, input-front}
-use Rattle.trial.proofs.Narrow.{NarrowM, drop-below, item-narrow, feed-narrow, run-narrow, start-narrow}
+use Rattle.bench_records.specs.Records.{kindAt, queueAt, itemAt, feedBody, feedBytes, firingKind, firingBody, firingBytes, isFeed, feedNext, firingNumber}
+use Rattle.bench_records.specs.Records.{start, Feeds, unfed, fed, feedsFrom, Firings, unfired, firings, before, firingsFrom}
+use Rattle.bench_records.proofs.Listing.{firings-end, firings-stop, firings-next}
+use Rattle.bench_records.proofs.Feeding.{some-number, whole-body, item-wide, feeds-over, feeds-by}
+use Rattle.trial.specs.Trial.{Trial, refusal, ended, firedTrial, fedTrial, keptTrial, INPUT, trialOf}
+use Rattle.trial.proofs.Front.{front-keeps, front-stops, front-small, input-long, input-front}
+use Rattle.trial.proofs.Narrow.{NarrowM, item-narrow, feed-narrow, run-narrow, start-narrow}
+use Rattle.format.proofs.Fronts.{drop-below}
+
+-- the first record after the longest sheet
+abbrev pub AFTER : ℕ
+AFTER = OPERATORS + 1
 
 abbrev Below : List ℕ → Type 0
 Below s = (k : ℕ) → getD s k 0 < 256
@@ -36,7 +43,7 @@ Below s = (k : ℕ) → getD s k 0 < 256
 -- ---- firings
 
 abbrev FiringsIn : ℕ → ℕ → Firings → Type 0
-FiringsIn n b (unfired r k) = (r ≤ 2) × (k ≤ b)
+FiringsIn n b (unfired r k) = (1 ≤ r) × (r ≤ 2) × (k ≤ b)
 FiringsIn n b (firings qs) = length qs ≤ n
 
 number-tests : (x y z : Bool) → cond {A = ℕ} x 1 (cond y (cond z 0 1) 2) ≤ 2
@@ -71,14 +78,14 @@ firings-in (suc n) k b s l =
     subst (FiringsIn (suc n) b) (sym (firings-next n k s ne z))
     (before-in n b (queueAt s) (firingsFrom n (k + 1) (drop firingBytes s))
     (firings-in n (k + 1) b (drop firingBytes s) (omega arith))))
-    (λ (nz : firingNumber s ≡ 0 → ⊥). subst (FiringsIn (suc n) b) (sym (firings-stop n k s ne nz)) (number-small s, omega arith))
+    (λ (nz : firingNumber s ≡ 0 → ⊥). subst (FiringsIn (suc n) b) (sym (firings-stop n k s ne nz)) (omega arith, number-small s, omega arith))
     (same-or (firingNumber s) 0))
     (same-or (length s) 0)
 
 -- ---- feeds
 
 abbrev FeedsIn : Abstract → ℕ → ℕ → Feeds → Type 0
-FeedsIn a size b (unfed r k) = (r ≤ 12) × (k ≤ b)
+FeedsIn a size b (unfed r k) = (1 ≤ r) × (r ≤ 12) × (k ≤ b)
 FeedsIn a size b (fed m k rest) = GoodM a m × NarrowM m × (k ≤ b) × (length rest ≤ size)
 
 feed-tests : (x y z : Bool) (m : Machine) (k : ℕ) → cond x (cond y (cond z (refuse 12) (done m)) (refuse 9)) (refuse 1) ≡ refuse k → k ≤ 12
@@ -101,7 +108,8 @@ module _ (a : Abstract) (sound : Sound a) (size b : ℕ) where
       feedNext a m s ≡ o → ((m' : Machine) → GoodM a m' → NarrowM m' → FeedsIn a size b (feedsFrom n a m' (k + 1) (drop feedBytes s))) →
       FeedsIn a size b (feedsFrom (suc n) a m k s)
   feeds-step n k m s l h g w (refuse r) e d more =
-      subst (FeedsIn a size b) (sym (feeds-by n k a m s (refuse r) e d)) (feed-number a m s r d, omega arith)
+      subst (FeedsIn a size b) (sym (feeds-by n k a m s (refuse r) e d))
+      (let z = some-number a m s r d in omega arith, feed-number a m s r d, omega arith)
   feeds-step n k m s l h g w (done m') e d more =
       let p = whole-body a m m' s d in
       subst (FeedsIn a size b) (sym (feeds-by n k a m s (done m') e d))
@@ -125,34 +133,39 @@ module _ (a : Abstract) (sound : Sound a) (size b : ℕ) where
 
 -- ---- the whole input
 
--- a refusal has small numbers; figures are those of a good machine of 32-bit numbers, with small counts
-pub record Figures (f : Trial) : Type 0 where
+-- a refusal has small numbers, and its own is not 0; else a good machine of 32-bit numbers on an accepted sheet, with small counts
+pub record Ended (f : Trial) : Type 0 where
   pub sheet : Abstract
+  pub accepted : checkOf (memorySheet sheet) ≡ accepted
+  pub view : viewSheet (memorySheet sheet) ≡ sheet
   pub sound : Sound sheet
   pub ran : Ran
   pub good : GoodM sheet (ran .machine)
   pub narrow : NarrowM (ran .machine)
   pub few : ran .fired + ran .skipped ≤ INPUT
-  pub same : f ≡ figuresOf sheet ran
+  pub same : f ≡ ended sheet ran
 
 pub record Refusal (f : Trial) : Type 0 where
   pub number : ℕ
   pub spot : ℕ
+  pub some : 1 ≤ number
   pub small : number ≤ 18
-  pub early : spot ≤ INPUT + INPUT + 17
+  pub early : spot ≤ INPUT + INPUT + AFTER
   pub same : f ≡ refusal number spot
 
-refusal-in : (r k : ℕ) → r ≤ 18 → k ≤ INPUT + INPUT + 17 → Refusal (refusal r k)
-refusal-in r k a b = record { number = r; spot = k; small = a; early = b; same = refl }
+refusal-in : (r k : ℕ) → 1 ≤ r → r ≤ 18 → k ≤ INPUT + INPUT + AFTER → Refusal (refusal r k)
+refusal-in r k i a b = record { number = r; spot = k; some = i; small = a; early = b; same = refl }
 
-module _ (a : Abstract) (sound : Sound a) where
-  fired-in : (m : Machine) (f : Firings) → GoodM a m → NarrowM m → FiringsIn INPUT (INPUT + INPUT + 17) f →
-      Figures (firedTrial a m f) ⊎ Refusal (firedTrial a m f)
-  fired-in m (unfired r k) g w h = inr (refusal-in r k (omega (arith, h .0)) (h .1))
+module _ (a : Abstract) (ok : checkOf (memorySheet a) ≡ accepted) (view : viewSheet (memorySheet a) ≡ a) (sound : Sound a) where
+  fired-in : (m : Machine) (f : Firings) → GoodM a m → NarrowM m → FiringsIn INPUT (INPUT + INPUT + AFTER) f →
+      Ended (firedTrial a m f) ⊎ Refusal (firedTrial a m f)
+  fired-in m (unfired r k) g w h = inr (refusal-in r k (h .0) (omega (arith, h .1)) (h .2))
   fired-in m (firings qs) g w h =
       inl
       (record {
         sheet = a;
+        accepted = ok;
+        view = view;
         sound = sound;
         ran = runM a qs m;
         good = run-keeps a sound qs (record { fired = 0; skipped = 0; machine = m }) g;
@@ -161,23 +174,24 @@ module _ (a : Abstract) (sound : Sound a) where
         same = refl;
       })
 
-  fed-in : (f : Feeds) → FeedsIn a INPUT (INPUT + 17) f → Figures (fedTrial a f) ⊎ Refusal (fedTrial a f)
-  fed-in (unfed r k) h = inr (refusal-in r k (omega (arith, h .0)) (omega (arith, h .1)))
+  fed-in : (f : Feeds) → FeedsIn a INPUT (INPUT + AFTER) f → Ended (fedTrial a f) ⊎ Refusal (fedTrial a f)
+  fed-in (unfed r k) h = inr (refusal-in r k (h .0) (omega (arith, h .1)) (omega (arith, h .2)))
   fed-in (fed m k rest) h =
       fired-in m (firingsFrom (length rest) k rest) (h .0) (h .1)
-      (firings-more (length rest) INPUT (INPUT + INPUT + 17) (h .3) (firingsFrom (length rest) k rest)
-      (firings-in (length rest) k (INPUT + INPUT + 17) rest (omega (arith, h .2, h .3))))
+      (firings-more (length rest) INPUT (INPUT + INPUT + AFTER) (h .3) (firingsFrom (length rest) k rest)
+      (firings-in (length rest) k (INPUT + INPUT + AFTER) rest (omega (arith, h .2, h .3))))
 
 -- ---- the front
 
-gap-or-fed : (w : Bool) (a : Abstract) (f : Feeds) (k : ℕ) → k ≤ 17 → (w ≡ true → Figures (fedTrial a f) ⊎ Refusal (fedTrial a f)) →
-    Figures (cond w (fedTrial a f) (refusal 5 k)) ⊎ Refusal (cond w (fedTrial a f) (refusal 5 k))
+gap-or-fed : (w : Bool) (a : Abstract) (f : Feeds) (k : ℕ) → k ≤ AFTER → (w ≡ true → Ended (fedTrial a f) ⊎ Refusal (fedTrial a f)) →
+    Ended (cond w (fedTrial a f) (refusal 5 k)) ⊎ Refusal (cond w (fedTrial a f) (refusal 5 k))
 gap-or-fed true a f k l h = h refl
-gap-or-fed false a f k l h = inr (refusal-in 5 k (omega arith) (omega arith))
+gap-or-fed false a f k l h = inr (refusal-in 5 k (omega arith) (omega arith) (omega arith))
 
 module _ (s : List ℕ) (below : (k : ℕ) → getD s k 0 < 256) (l : length s ≤ INPUT) where
-  kept-in : (k : Kept) → frontOf s ≡ k → Figures (keptTrial k) ⊎ Refusal (keptTrial k)
-  kept-in (stopped r k) e = let p = front-small s r k e in inr (refusal-in r k (omega (arith, p .0)) (omega (arith, p .1)))
+  kept-in : (k : Kept) → frontOf s ≡ k → Ended (keptTrial k) ⊎ Refusal (keptTrial k)
+  kept-in (stopped r k) e = let p = front-small s r k e in let z = front-stops s r k e in
+      inr (refusal-in r k (omega arith) (omega (arith, p .0)) (omega (arith, p .1)))
   kept-in (kept a rest) e =
       let g = front-keeps s a rest below e in
       let few = g .few in
@@ -187,16 +201,16 @@ module _ (s : List ℕ) (below : (k : ℕ) → getD s k 0 < 256) (l : length s �
       gap-or-fed (whole (a .queues) (known a)) a (feedsFrom (length rest) a start (nextRecord a) rest) (nextRecord a) (omega arith)
       (λ w.
       let sound : Sound a = subst (λ (b : Abstract). Sound b) (g .view) (sound-of-accepted (memorySheet a) (g .accepted w)) in
-      fed-in a sound (feedsFrom (length rest) a start (nextRecord a) rest)
-      (feeds-in a sound INPUT (INPUT + 17) (length rest) (nextRecord a) start rest (omega arith) (omega arith) under
+      fed-in a (g .accepted w) (g .view) sound (feedsFrom (length rest) a start (nextRecord a) rest)
+      (feeds-in a sound INPUT (INPUT + AFTER) (length rest) (nextRecord a) start rest (omega arith) (omega arith) under
       (fresh-good a sound) start-narrow))
 
 -- every input of bytes
-pub trial-within : (s : List ℕ) → ((k : ℕ) → getD s k 0 < 256) → Figures (trialOf s) ⊎ Refusal (trialOf s)
+pub trial-within : (s : List ℕ) → ((k : ℕ) → getD s k 0 < 256) → Ended (trialOf s) ⊎ Refusal (trialOf s)
 trial-within s below =
     ⊎-elim
-    (λ (l : INPUT < length s). subst (λ (f : Trial). Figures f ⊎ Refusal f) (sym (input-long s l))
-    (inr (refusal-in 18 0 (omega arith) (omega arith))))
-    (λ (l : length s ≤ INPUT). subst (λ (f : Trial). Figures f ⊎ Refusal f) (sym (input-front s (frontOf s) l refl))
+    (λ (l : INPUT < length s). subst (λ (f : Trial). Ended f ⊎ Refusal f) (sym (input-long s l))
+    (inr (refusal-in 18 0 (omega arith) (omega arith) (omega arith))))
+    (λ (l : length s ≤ INPUT). subst (λ (f : Trial). Ended f ⊎ Refusal f) (sym (input-front s (frontOf s) l refl))
     (kept-in s below l (frontOf s) refl))
     (order INPUT (length s))

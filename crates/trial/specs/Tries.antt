@@ -1,78 +1,75 @@
--- What the functions of a trial answer, against the definitions.
+-- What trying an input answers and leaves in the lent store, and what its parts answer, against the definitions.
 use mathlib.Core.Path.{_≡_}
-use mathlib.Core.Bool.{cond}
+use mathlib.Core.Bool.{true, false}
 use mathlib.Core.List.{List}
-use mathlib.Core.Option.{some, none}
-use Prim.Native.Nat.{ℕ, _+_, _≤_}
-use lib.Dec.{eqb}
-use lib.ListN.{length, take, drop}
+use Prim.Native.Nat.{ℕ, _≤_}
+use lib.ListN.{length, drop}
 use lib.IntN.{ℤ}
 use Rattle.sheet.specs.declared.Sheet.{Sheet}
-use Rattle.sheet.specs.Answer.{Paper}
-use Rattle.sheet.specs.Sheet.{viewSheet}
+use Rattle.sheet.specs.Answer.{accepted}
+use Rattle.sheet.specs.Sheet.{viewSheet, memorySheet, noSheet}
+use Rattle.sheet.specs.Check.{checkOf}
 use Rattle.machine.specs.declared.State.{State}
-use Rattle.machine.specs.Machine.{Machine}
-use Rattle.machine.specs.Numbers.{decode}
-use Rattle.machine.specs.Calls.{Call, saved}
+use Rattle.machine.specs.Machine.{runM}
+use Rattle.machine.specs.Numbers.{decode, stateOf, storeIn}
+use Rattle.machine.specs.Calls.{freshState}
 use Rattle.machine.specs.Working.{Stands}
-use Rattle.trial.specs.declared.Fed.{Fed}
-use Rattle.trial.specs.declared.Listed.{Listed}
+use Rattle.bench_records.specs.Records.{Feeds, start, allFed, machineIn}
+use Rattle.bench_records.specs.Looks.{feedsAfter}
 use Rattle.trial.specs.declared.Tried.{Tried}
-use Rattle.trial.specs.Records.{Feeds, unfed, fed, feedNext, feedsFrom, Firings, unfired, firings}
-use Rattle.trial.specs.Trial.{Trial, refusal, figures, outputsOf, variablesOf, fedTrial}
+use Rattle.trial.specs.Trial.{Trial, refusal, ended, fedTrial, INPUT, atRest}
 
--- the number of a refusal, 0 for none
-abbrev pub numberOf : Paper → ℕ
-numberOf none = 0
-numberOf (some x) = x .0
+-- ---- the whole
 
--- more firings than the longest input has records
-abbrev pub LIST : ℕ
-LIST = 6560
+-- the answer: of a refused input its number and record, with no firings, no sheet and a fresh state in their places;
+-- else 0 for no refusal, the counts, and where the run ended
+abbrev pub triedOf : Trial → Tried
+triedOf (refusal number spot) =
+    record { number = number; spot = spot; fired = 0; skipped = 0; rest = false; sheet = noSheet; state = freshState }
+triedOf (ended a r) =
+    record {
+      number = 0;
+      spot = 0;
+      fired = r .fired;
+      skipped = r .skipped;
+      rest = atRest a (r .machine);
+      sheet = memorySheet a;
+      state = stateOf (r .machine);
+    }
 
--- the feed at the front of the bytes, made in numbers
-abbrev pub feedCall : Sheet → State → List ℤ → List ℕ → Call
-feedCall t st s rest = saved st s (feedNext (viewSheet t) (decode st s) rest)
+-- the store: a refused input leaves it as it was
+abbrev pub storeAfter : List ℤ → Trial → List ℤ
+storeAfter s (refusal number spot) = s
+storeAfter s (ended a r) = storeIn (r .machine)
 
--- what the bytes after a sheet come to, from a machine on: the feeds, and all of it
-abbrev pub feedsAfter : Sheet → Machine → List ℕ → Feeds
-feedsAfter t m rest = feedsFrom (length rest) (viewSheet t) m (t .count + 1) rest
+pub record Tries (f : Trial) (before : List ℤ) (r : Tried) (after : List ℤ) : Type 0 where
+  pub answered : r ≡ triedOf f
+  pub stored : after ≡ storeAfter before f
 
-abbrev pub trialAfter : Sheet → Machine → List ℕ → Trial
-trialAfter t m rest = fedTrial (viewSheet t) (feedsAfter t m rest)
+-- ---- its parts
 
--- how the feeds of an input end: f is what they come to
-pub record FeedsTo (f : Feeds) (t : Sheet) (s : List ℕ) (r : Fed) (after : List ℤ) : Type 0 where
-  pub stops : (r .number ≡ 0 → ⊥) → f ≡ unfed (r .number) (r .spot)
-  pub feeds : r .number ≡ 0 → f ≡ fed (decode (r .state) after) (r .spot) (drop (r .at) s)
-  pub stands : Stands t (r .state) after
-  pub inside : r .at ≤ length s
-  pub few : r .spot ≤ r .at + 17
+-- a sheet as it was read from the front of an input
+pub record WholeFront (t : Sheet) (end : ℕ) (s : List ℕ) : Type 0 where
+  pub sheet : checkOf t ≡ accepted
+  pub same : memorySheet (viewSheet t) ≡ t
+  pub inside : end ≤ length s
+  pub short : length s ≤ INPUT
 
--- how the firings end: the list holds them
-pub record Lists (f : Firings) (r : Listed) (after : List ℕ) : Type 0 where
-  pub stops : (r .number ≡ 0 → ⊥) → f ≡ unfired (r .number) (r .spot)
-  pub lists : r .number ≡ 0 → f ≡ firings (take (r .count) after)
-  pub within : r .count ≤ LIST
+-- what the bytes after a sheet come to
+abbrev pub trialAfter : Sheet → List ℕ → Trial
+trialAfter t rest = fedTrial (viewSheet t) (feedsAfter t start rest)
 
--- the program's answer in the paper's words: 0 for no refusal; the items lie in the store
-abbrev pub figuresIn : Tried → List ℤ → Trial
-figuresIn r s =
-    let a = viewSheet (r .sheet) in
-    let m = decode (r .state) s in
-    figures (r .fired) (r .skipped) (r .rest) (outputsOf a m) (variablesOf a m)
+-- what a list of firings comes to after the feeds
+abbrev pub firedAfter : Sheet → List ℕ → List ℕ → Trial
+firedAfter t rest qs = ended (viewSheet t) (runM (viewSheet t) qs (machineIn (feedsAfter t start rest)))
 
-abbrev pub told : Tried → List ℤ → Trial
-told r s = cond (eqb (r .number) 0) (figuresIn r s) (refusal (r .number) (r .spot))
+-- what feeding asks: numbers that stand, and feeds none of which is refused
+pub record Feedable (t : Sheet) (st : State) (before : List ℤ) (s : List ℕ) (from : ℕ) : Type 0 where
+  pub stands : Stands t st before
+  pub inside : from ≤ length s
+  pub all : allFed (feedsAfter t (decode st before) (drop from s)) ≡ true
 
--- how the feeds ended, in the paper's words, and what the input comes to from there
-abbrev pub feedsTold : Fed → List ℤ → List ℕ → Feeds
-feedsTold f store s = cond (eqb (f .number) 0) (fed (decode (f .state) store) (f .spot) (drop (f .at) s)) (unfed (f .number) (f .spot))
-
-abbrev pub trialFed : Sheet → Fed → List ℤ → List ℕ → Trial
-trialFed t f store s = fedTrial (viewSheet t) (feedsTold f store s)
-
--- a trial comes to f; where it is not refused, sheet and numbers stand
-pub record Tries (f : Trial) (r : Tried) (after : List ℤ) : Type 0 where
-  pub tells : told r after ≡ f
-  pub stands : r .number ≡ 0 → Stands (r .sheet) (r .state) after
+-- what feeding leaves: the machine that the feeds f come to, in numbers that stand
+pub record FeedsTo (f : Feeds) (t : Sheet) (st : State) (after : List ℤ) : Type 0 where
+  pub machine : decode st after ≡ machineIn f
+  pub stands : Stands t st after

@@ -15,12 +15,13 @@ use Rattle.sheet.specs.declared.Answer.the-variants.{Done}
 use Rattle.sheet.specs.declared.Sheet.{Sheet}
 use Rattle.sheet.specs.Sheet.{viewSheet}
 use Rattle.store.specs.declared.Item.{Item}
-use Rattle.store.specs.Store.{ROOM, QUEUES}
+use Rattle.bounds.specs.Bounds.{QUEUES, ROOM}
 use Rattle.machine.specs.declared.State.{State}
 use Rattle.machine.specs.Machine.{Outcome, refuse, done, feedM}
 use Rattle.machine.specs.Numbers.{decode}
-use Rattle.machine.specs.Calls.{saved}
-use Rattle.machine.specs.Working.{Raw, raw, putRaw, Stands, Answers}
+use Rattle.machine.specs.Calls.{saved, feedKnown}
+use Rattle.machine.specs.Answers.{Answers}
+use Rattle.machine.specs.Working.{Raw, raw, putRaw, Stands}
 use Rattle.machine.proofs.Good.{tested-of-good, decoded-count, decoded-many}
 use Rattle.machine.proofs.Bridge.{holds-of-good, push-holds}
 use Rattle.machine.proofs.Sound.{sound-of-accepted}
@@ -50,7 +51,7 @@ module _ (t : Sheet) (st : State) (s : List ℤ) (q : ℕ) (x : Item) where
       -- what the put leaves are the counts and the store of the machine after the feed
       fed-answers : (cs : List ℕ) (v : List ℤ) → length (st .counts) ≡ QUEUES → leb ROOM (getD (st .counts) q 0) ≡ false →
           raw cs v ≡ putRaw (raw (st .counts) s) q x →
-          Answers (saved st s (feedM (viewSheet t) (decode st s) q x)) Done (record { counts = cs; vars = st .vars }) v
+          Answers (feedKnown t st s q x) Done (record { counts = cs; vars = st .vars }) v
       fed-answers cs v n f e =
           let held = holds-of-good (viewSheet t) st s (h .numbers) n in
           let p = push-holds (st .counts) s (decode st s .queues) held q x (decoded-many st s ∙ n) input-below (leb-false ROOM (getD (st .counts) q 0) f) in

@@ -2,14 +2,15 @@
 -- Assumes nothing.
 use mathlib.Core.Path.{_≡_, subst}
 use lib.ListN.{length}
-use Rattle.store.specs.Store.{QUEUES}
+use Rattle.bounds.specs.Bounds.{QUEUES}
 use denote.Ref.{now}
 use borrow.Author.Needs.{needs}
 use Rattle.machine.specs.Machine.{Outcome}
 use Rattle.machine.specs.Numbers.{decode}
 use Rattle.machine.specs.Calls.{saved}
-use Rattle.machine.specs.Working.{stateWith, Answers}
-use Rattle.calls.proofs.Found.{fire-as-found, fit-as-found}
+use Rattle.machine.specs.Answers.{Answers}
+use Rattle.machine.specs.Working.{stateWith}
+use Rattle.machine.proofs.Found.{fire-as-found, can-fire-as-found}
 use Rattle.calls.proofs.fire_known.Statement.{statement}
 use Rattle.calls.proofs.fire_known.Tie as tie
 
@@ -36,7 +37,7 @@ fire-found-requires c κs =
     let d = r .before in
     let a = d .args in (
       many d,
-      fit-as-found (a .t1) (a .q) (k .reader-at .result) (r .readers .result) (r .readers .ensures) (k .reader-at .ensures) (a .state) (now (a .store)) (d .pre),
+      can-fire-as-found (a .t1) (a .q) (k .reader-at .result) (r .readers .result) (r .readers .ensures) (k .reader-at .ensures) (a .state) (now (a .store)) (d .pre),
     )
 
 same-length : tie.Need-same-length

@@ -6,12 +6,11 @@ use borrow.Author.Needs.{needs}
 use native.Mathlib.Omega.{arith}
 use lib.ListN.{length, getD}
 use denote.Ref.{now}
-use Rattle.format.specs.Head.{VARIABLES}
-use Rattle.store.specs.Store.{QUEUES}
+use Rattle.bounds.specs.Bounds.{VARIABLES, QUEUES}
 use Rattle.sheet.specs.Sheet.{viewSheet}
 use Rattle.machine.specs.Working.{stateWith}
 use Rattle.machine.proofs.Good.{tested-of-good}
-use Rattle.calls.proofs.Found.{fit-as-found}
+use Rattle.machine.proofs.Found.{can-fire-as-found}
 use Rattle.calls.proofs.Running.{Running, running-start, running-turn, running-end}
 use Rattle.calls.proofs.run_known.Statement.{statement}
 use Rattle.calls.proofs.run_known.Tie as tie
@@ -57,7 +56,7 @@ fire-found-requires c κs =
     let r = h .before .before .before in
     let d = r .before .before in (
       h .loop .inv .counts,
-      fit-as-found (d .args .t1) (getD (now (d .args .list)) (h .loop .k) 0) (i .reader-at .result) (r .readers .result)
+      can-fire-as-found (d .args .t1) (getD (now (d .args .list)) (h .loop .k) 0) (i .reader-at .result) (r .readers .result)
           (r .readers .ensures) (i .reader-at .ensures) (stateWith (h .loop .counts) (h .loop .vars)) (h .loop .store) (h .loop .inv .stands),
     )
 

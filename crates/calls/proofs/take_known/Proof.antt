@@ -7,8 +7,8 @@ use lib.ListN.{length}
 use borrow.Author.Needs.{needs}
 use borrow.Author.Tests.{not-true, not-false}
 use denote.Ref.{now}
-use Rattle.format.specs.Head.{VARIABLES}
-use Rattle.store.specs.Store.{QUEUES, STORE}
+use Rattle.bounds.specs.Bounds.{VARIABLES, QUEUES}
+use Rattle.store.specs.Store.{STORE}
 use Rattle.sheet.specs.Sheet.{viewSheet}
 use Rattle.machine.proofs.Good.{tested-of-good}
 use Rattle.calls.proofs.Taking.{output-queue, takes-no-output, takes-empty, takes-first}
@@ -62,7 +62,7 @@ returns-2 c =
 first-requires : tie.Need-first-requires
 first-requires c κs =
     let e = c .before .before .before in
-    (whole (entry e), omega (arith, below e))
+    omega (arith, whole (entry e), below e)
 
 take-one-requires : tie.Need-take-one-requires
 take-one-requires c κs =

@@ -4,7 +4,7 @@ use mathlib.Core.Path.{refl, ap, sym, _∙_}
 use lib.Seq.{length-take-le}
 use Rattle.sheet.specs.Answer.{paper}
 use Rattle.sheet.proofs.InMemory.{held-sheet}
-use Rattle.codec.proofs.RoundTrip.{length-in-buffer, again-done, again-refused}
+use Rattle.codec.proofs.RoundTrip.{size-in-buffer, again-done, again-refused}
 use borrow.Author.Needs.{needs}
 use Rattle.codec.proofs.again.Statement.{statement}
 use Rattle.codec.proofs.again.Tie as tie
@@ -18,7 +18,7 @@ enum-told c = search needs
 slice-reshare-prefix-read : tie.Need-slice-reshare-prefix-read
 slice-reshare-prefix-read c =
     let w = c .before .before .before .before .write in
-    length-in-buffer _ _ _ (w .result) (w .ensures) (c .enum-told .given .1)
+    size-in-buffer _ _ _ (w .result) (w .ensures) (c .enum-told .given .1)
 
 slice-aggregate-read : tie.Need-slice-aggregate-read
 slice-aggregate-read c = sym (length-take-le _ _ (slice-reshare-prefix-read (c .before)))
@@ -29,14 +29,14 @@ read-requires c κs = search needs
 enum-known-a : tie.Need-enum-known-a
 enum-known-a c = search needs
 
-refused-requires : tie.Need-refused-requires
-refused-requires c κs = search needs
+unread-requires : tie.Need-unread-requires
+unread-requires c κs = search needs
 
 enum-known-a-2 : tie.Need-enum-known-a-2
 enum-known-a-2 c = search needs
 
-no-sheet-requires : tie.Need-no-sheet-requires
-no-sheet-requires c κs = search needs
+unread-requires-2 : tie.Need-unread-requires-2
+unread-requires-2 c κs = search needs
 
 same-length : tie.Need-same-length
 same-length c = search needs
@@ -55,7 +55,7 @@ returns-2 : tie.Need-returns-2
 returns-2 c =
     let w = c .before .before .before .before .before .before .write in
     let a = c .before .before .a .given .1 in
-    again-refused _ _ _ (w .result) (w .ensures) (c .refused .result) (rw a refl) (ap paper (c .refused .ensures .0 ∙ sym a)) (c .refused .ensures .1)
+    again-refused _ _ _ (w .result) (w .ensures) (c .unread .result) (rw a refl) (ap paper (c .unread .ensures .0 ∙ sym a)) (c .unread .ensures .1)
 
 same-length-3 : tie.Need-same-length-3
 same-length-3 c = search needs
@@ -64,7 +64,7 @@ returns-3 : tie.Need-returns-3
 returns-3 c =
     let w = c .before .before .before .before .before .before .write in
     let a = c .before .before .a2 .given .1 in
-    again-refused _ _ _ (w .result) (w .ensures) _ (rw a refl) (ap paper (sym a)) (c .no-sheet .ensures)
+    again-refused _ _ _ (w .result) (w .ensures) (c .unread2 .result) (rw a refl) (ap paper (c .unread2 .ensures .0 ∙ sym a)) (c .unread2 .ensures .1)
 
 pub again-spec : {M : Type 1} → statement M
 again-spec =
@@ -76,9 +76,9 @@ again-spec =
     slice-aggregate-read
     read-requires
     enum-known-a
-    refused-requires
+    unread-requires
     enum-known-a-2
-    no-sheet-requires
+    unread-requires-2
     same-length
     returns
     same-length-2

@@ -24,7 +24,8 @@ abbrev μ-loop : tie.MeasureT-loop
 start : (w : List ℕ) (n k : ℕ) (qs : List ℕ) → Left w w n k 0 qs
 start w n k qs = ap (dealt w n k 0) (rest-all k (λ (x : ℕ). getD qs x 0))
 
-turn : (w r next : List ℕ) (n k j m : ℕ) (qs : List ℕ) → j < k → m ≡ dealWorst n k j → next ≡ set r (getD qs j 0) m → Left w r n k j qs → Left w next n k (j + 1) qs
+turn : (w r next : List ℕ) (n k j m : ℕ) (qs : List ℕ) → j < k → m ≡ dealWorst n k j → next ≡ set r (getD qs j 0) m → Left w r n k j qs →
+    Left w next n k (j + 1) qs
 turn w r next n k j m qs h e d l = rw (d, e) (dealt-turn r n k j (λ (x : ℕ). getD qs x 0) h ∙ l)
 
 end : (w r : List ℕ) (n k j : ℕ) (qs : List ℕ) → k ≤ j → Left w r n k j qs → r ≡ dealt w n k 0 (ways k qs)

@@ -31,7 +31,8 @@ counted-requires-2 c κs = search needs
 returns : tie.Need-returns
 returns c =
     let a = c .before .before .before .before .before .before .args in
-    stored (a .w) _ _ (getD (a .t2 .outs) 0 0) _ _ _ (c .before .before .before .before .count-at .ensures) (c .before .before .counted .ensures) (c .counted2 .ensures)
+    stored (a .w) _ _ (getD (a .t2 .outs) 0 0) _ _ _ (c .before .before .before .before .count-at .ensures)
+    (c .before .before .counted .ensures) (c .counted2 .ensures)
 
 pub double-counts-spec : {M : Type 1} → statement M
 double-counts-spec =

@@ -11,8 +11,8 @@ use borrow.Author.Tests.{not-true, not-false}
 use Rattle.lists.specs.Lists.{build, all}
 use Rattle.lists.proofs.Tests.{all-more, all-stop}
 use Rattle.judge.proofs.Loops.{all-end}
-use Rattle.format.specs.Head.{QUEUES}
-use Rattle.counts.specs.Worst.{ROOM, feedGood}
+use Rattle.bounds.specs.Bounds.{QUEUES, ROOM}
+use Rattle.counts.specs.Worst.{feedGood}
 use Rattle.counts.proofs.feed_good.Statement.{statement}
 use Rattle.counts.proofs.feed_good.Tie as tie
 
@@ -54,8 +54,11 @@ loop-less c = omega arith
 loop-again : tie.Need-loop-again Inv-loop μ-loop
 loop-again c =
     let l = c .before .before .before in
-    let a = l .before .args in
-    (omega arith, all-more (test (a .inputs) (a .t2)) (l .loop .q) (λ (k : ℕ). k) (l .loop .inv .1) (sym (c .before .fed-good .ensures) ∙ not-false _ (c .if1 .left)))
+    let a = l .before .args in (
+      omega arith,
+      all-more (test (a .inputs) (a .t2)) (l .loop .q) (λ (k : ℕ). k) (l .loop .inv .1)
+          (sym (c .before .fed-good .ensures) ∙ not-false _ (c .if1 .left)),
+    )
 
 returns-2 : tie.Need-returns-2 Inv-loop μ-loop
 unfolding feedGood

@@ -22,7 +22,9 @@ empty-counts w o r e = never' (sym (ap isEmpty e) ∙ r .some)
 deal-counted : (w r : List ℕ) (o : Operator) (n : ℕ) → n ≡ getD w (getD (o .ins) 0 0) 0 → r ≡ dealt w n (o .count) 0 (ways (o .count) (o .outs)) →
     r ≡ worstOp w (viewAs Deal o)
 deal-counted w r o n e h =
-    h ∙ rw e (ap (λ (k : ℕ). dealt w (getD w (getD (o .ins) 0 0) 0) k 0 (ways (o .count) (o .outs))) (sym (build-length (o .count) (λ (k : ℕ). getD (o .outs) k 0))))
+    h
+    ∙ rw e (ap (λ (k : ℕ). dealt w (getD w (getD (o .ins) 0 0) 0) k 0 (ways (o .count) (o .outs)))
+    (sym (build-length (o .count) (λ (k : ℕ). getD (o .outs) k 0))))
 
 gather-counted : (w r : List ℕ) (o : Operator) (n : ℕ) → n ≡ sum (map (λ (p : ℕ). getD w p 0) (ways (o .count) (o .ins))) → r ≡ set w (getD (o .outs) 0 0) n →
     r ≡ worstOp w (viewAs Gather o)

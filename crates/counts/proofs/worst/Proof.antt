@@ -7,7 +7,7 @@ use native.Mathlib.Omega.{arith}
 use lib.ListN.{replicate}
 use borrow.Author.Needs.{needs}
 use borrow.Author.Tests.{not-true, not-false}
-use Rattle.format.specs.Head.{QUEUES}
+use Rattle.bounds.specs.Bounds.{QUEUES}
 use Rattle.sheet.specs.Answer.{Paper, isAccepted, paper}
 use Rattle.sheet.specs.Check.{checkOf}
 use Rattle.sheet.specs.Sheet.{viewSheet}
@@ -99,13 +99,15 @@ returns-3 : tie.Need-returns-3
 returns-3 c =
     let k = c .before .before .before .before in
     let a = k .before .args in
-    refused-sheet (a .t) (a .fed) (c .no-counts2 .result) (k .check .result) _ (c .before .before .a .given .1) refl (k .check .ensures) (c .no-counts2 .ensures)
+    refused-sheet (a .t) (a .fed) (c .no-counts2 .result) (k .check .result) _ (c .before .before .a .given .1) refl (k .check .ensures)
+    (c .no-counts2 .ensures)
 
 returns-4 : tie.Need-returns-4
 returns-4 c =
     let k = c .before .before .before .before in
     let a = k .before .args in
-    refused-sheet (a .t) (a .fed) (c .no-counts3 .result) (k .check .result) _ (c .before .before .a2 .given .1) refl (k .check .ensures) (c .no-counts3 .ensures)
+    refused-sheet (a .t) (a .fed) (c .no-counts3 .result) (k .check .result) _ (c .before .before .a2 .given .1) refl (k .check .ensures)
+    (c .no-counts3 .ensures)
 
 pub worst-spec : {M : Type 1} → statement M
 worst-spec =

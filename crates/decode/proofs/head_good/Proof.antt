@@ -27,7 +27,13 @@ unfolding headGood
 returns-5 c =
     let d = c .before in
     let b = d .before .before in
-    simp (le-leb _ _ (b .before .if1 .left), le-leb _ _ (b .if2 .left), le-leb _ _ (d .before .if3 .left), le-leb _ _ (d .if4 .left), lt-leb _ _ (c .if5 .taken))
+    simp (
+      le-leb _ _ (b .before .if1 .left),
+      le-leb _ _ (b .if2 .left),
+      le-leb _ _ (d .before .if3 .left),
+      le-leb _ _ (d .if4 .left),
+      lt-leb _ _ (c .if5 .taken),
+    )
 
 returns-6 : tie.Need-returns-6
 unfolding headGood

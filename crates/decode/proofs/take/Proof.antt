@@ -1,8 +1,8 @@
 -- `decode::take` meets its contract: a lemma for each refusal and one for the operator, over plain bytes.
-use mathlib.Core.Path.{_≡_, refl, ap, sym, _∙_}
+use mathlib.Core.Path.{_≡_, ap, sym, _∙_}
 use mathlib.Core.Bool.{true, false}
 use mathlib.Core.List.{List}
-use Prim.Native.Nat.{ℕ, suc, _+_, _≤_}
+use Prim.Native.Nat.{ℕ, _+_, _≤_}
 use native.Mathlib.Omega.{arith}
 use lib.ListN.{length, drop}
 use lib.Seq.{drop-drop}
@@ -11,23 +11,22 @@ use Rattle.number.specs.Number.{shortOf}
 use Rattle.operator.specs.Memory.{isEmpty, memory}
 use Rattle.operator.specs.declared.Kind.{Kind}
 use Rattle.operator.specs.declared.Operator.{Operator}
-use Rattle.format.specs.Record.{kindOf, cut, bodyGood, opOf, taken, bad, took, refusalIn, opIn, restIn}
-use Rattle.decode.specs.Takes.{Takes}
-use Rattle.decode.specs.declared.Taken.{Taken}
+use Rattle.format.specs.Record.{kindOf, cut, bodyGood, opOf, taken, bad, took}
+use Rattle.decode.specs.Takes.{noRecord, recordAs, recordAt}
+use Rattle.decode.specs.declared.TakenRecord.{TakenRecord}
 use Rattle.decode.proofs.Cut.{whole-at}
 use borrow.Author.Needs.{needs}
 use Rattle.decode.proofs.take.Statement.{statement}
 use Rattle.decode.proofs.take.Tie as tie
 
 -- a refusal, whatever its record
-refuses : (s : List ℕ) (at m : ℕ) (r : Taken) → taken (drop at s) ≡ bad (suc m) → (r .number ≡ suc m) × (r .next ≡ 0) → Takes s at r
-refuses s at m r t e =
-    record {
-      number = e .0 ∙ sym (ap refusalIn t);
-      op = λ h. absurd (omega arith);
-      rest = λ h. absurd (omega arith);
-      inside = omega arith;
-    }
+refuses : (s : List ℕ) (at m : ℕ) (r : TakenRecord) → taken (drop at s) ≡ bad m → r ≡ noRecord m → r ≡ recordAt s at
+unfolding recordAt
+refuses s at m r t e = e ∙ ap (recordAs s at) (sym t)
+
+-- an operator, with the place after its record
+abbrev tookAs : ℕ → Operator → TakenRecord
+tookAs next o = record { number = 0; next = next; op = o }
 
 -- the header's two numbers and the kind
 record Header (s : List ℕ) (at n m : ℕ) (k : Kind) : Type 0 where
@@ -56,17 +55,17 @@ module _ {s : List ℕ} {at n m : ℕ} {k : Kind} (h : Header s at n m k) where
   unfolding taken
   taken-op e g = rw (h .some, ← kind-at, e, ← h .size, g, drop-drop 4 at s, drop-drop n (at + 4) s)
 
-  takes : (o : Operator) (r : Taken) → isEmpty k ≡ false → bodyGood k n ≡ true → o ≡ memory (opOf k n (drop (at + 4) s)) →
-      r ≡ record { number = 0; next = at + 4 + n; op = o } → Takes s at r
-  takes o r e g q w =
-      let t = taken-op e g in
-      rw w
-      (record {
-        number = sym (ap refusalIn t);
-        op = λ _. q ∙ ap memory (sym (ap opIn t));
-        rest = λ _. sym (ap restIn t);
-        inside = omega (arith, whole-at s at (h .some), h .size);
-      })
+  kind-refused : (r : TakenRecord) → isEmpty k ≡ true → r ≡ noRecord 2 → r ≡ recordAt s at
+  kind-refused r e d = refuses s at 2 r (taken-kind e) d
+
+  length-refused : (r : TakenRecord) → isEmpty k ≡ false → bodyGood k n ≡ false → r ≡ noRecord 1 → r ≡ recordAt s at
+  length-refused r e g d = refuses s at 1 r (taken-length e g) d
+
+  takes : (o : Operator) → isEmpty k ≡ false → bodyGood k n ≡ true → o ≡ memory (opOf k n (drop (at + 4) s)) → tookAs (at + 4 + n) o ≡ recordAt s at
+  unfolding recordAt
+  takes o e g q =
+      ap (tookAs (at + 4 + n)) q ∙ ap (λ (m : ℕ). tookAs (at + 4 + m) (memory (opOf k n (drop (at + 4) s)))) (h .size)
+      ∙ ap (recordAs s at) (sym (taken-op e g))
 
 some-at : (c : tie.Else1) →
     let a = c .before .before .before .args in
@@ -97,7 +96,7 @@ returns : tie.Need-returns
 returns c =
     let a = c .before .before .before .before .args in
     let e = sym (c .before .before .is-cut .ensures) ∙ c .before .if1 .taken in
-    refuses (a .s .now) (a .at) 0 _ (taken-cut (a .s .now) (a .at) e) (c .refused .ensures)
+    refuses (a .s .now) (a .at) 1 _ (taken-cut (a .s .now) (a .at) e) (c .refused .ensures)
 
 short-at-requires : tie.Need-short-at-requires
 short-at-requires c κs = omega (arith, some-at c)
@@ -121,7 +120,7 @@ returns-2 : tie.Need-returns-2
 returns-2 c =
     let b = c .before .before .before in
     let e = sym (c .before .before .is-empty .ensures) ∙ c .before .if2 .taken in
-    refuses _ _ 1 _ (taken-kind (header b) e) (c .refused2 .ensures)
+    kind-refused (header b) _ e (c .refused2 .ensures)
 
 body-good-requires : tie.Need-body-good-requires
 body-good-requires c κs = search needs
@@ -134,7 +133,7 @@ returns-3 c =
     let b = c .before .before .before .before .before in
     let e = sym (c .before .before .before .before .is-empty .ensures) ∙ c .before .before .before .if2 .left in
     let g = sym (c .before .before .body-good .ensures) ∙ not-true _ (c .before .if3 .taken) in
-    refuses _ _ 0 _ (taken-length (header b) e g) (c .refused3 .ensures)
+    length-refused (header b) _ e g (c .refused3 .ensures)
 
 add-body : tie.Need-add-body
 add-body c = search needs
@@ -153,7 +152,7 @@ returns-4 c =
     let b = c .before .before .before .before .before in
     let e = sym (c .before .before .before .before .is-empty .ensures) ∙ c .before .before .before .if2 .left in
     let g = sym (c .before .before .body-good .ensures) ∙ not-false _ (c .before .if3 .left) in
-    takes (header b) _ _ e g (c .operator-at .ensures) refl
+    takes (header b) _ e g (c .operator-at .ensures)
 
 pub take-spec : {M : Type 1} → statement M
 take-spec =

@@ -1,5 +1,5 @@
 -- `decode::take_head` meets its contract: a lemma for each refusal and one for the head, over plain bytes.
-use mathlib.Core.Path.{_≡_, refl, sym, _∙_}
+use mathlib.Core.Path.{_≡_, ap, sym, _∙_}
 use mathlib.Core.Bool.{true, false}
 use mathlib.Core.List.{List}
 use Prim.Native.Nat.{ℕ, suc, _≤_}
@@ -9,7 +9,7 @@ use borrow.Author.Tests.{eq-eqb, ne-eqb, not-true, not-false}
 use Rattle.number.specs.Number.{shortOf}
 use Rattle.format.specs.Record.{cut}
 use Rattle.format.specs.Head.{headGood, headNumber}
-use Rattle.decode.specs.Takes.{HeadTakes}
+use Rattle.decode.specs.Takes.{noHead, headAs, headTaken}
 use Rattle.decode.specs.declared.Head.{Head}
 use Rattle.decode.proofs.Cut.{whole-at}
 use borrow.Author.Needs.{needs}
@@ -17,15 +17,9 @@ use Rattle.decode.proofs.take_head.Statement.{statement}
 use Rattle.decode.proofs.take_head.Tie as tie
 
 -- a refusal, whatever its record
-refuses : (s : List ℕ) (m : ℕ) (r : Head) → headNumber s ≡ suc m → r .number ≡ suc m → HeadTakes s r
-refuses s m r t e =
-    record {
-      number = e ∙ sym t;
-      inputs = λ h. absurd (omega arith);
-      queues = λ h. absurd (omega arith);
-      variables = λ h. absurd (omega arith);
-      count = λ h. absurd (omega arith);
-    }
+refuses : (s : List ℕ) (m : ℕ) (r : Head) → headNumber s ≡ suc m → r ≡ noHead (suc m) → r ≡ headTaken s
+unfolding headTaken
+refuses s m r t e = e ∙ ap (λ (n : ℕ). headAs n s) (sym t)
 
 number-cut : (s : List ℕ) → cut s ≡ true → headNumber s ≡ 1
 unfolding headNumber
@@ -52,6 +46,10 @@ number-range {s} h g = rw (h .some, eq-eqb (shortOf (drop 2 s)) 1 (h .code), eq-
 number-good : {s : List ℕ} → Header s → headGood (getD s 4 0) (getD s 5 0) (getD s 6 0) (getD s 7 0) ≡ true → headNumber s ≡ 0
 unfolding headNumber
 number-good {s} h g = rw (h .some, eq-eqb (shortOf (drop 2 s)) 1 (h .code), eq-eqb (shortOf s) 4 (h .size), g)
+
+head-taken : {s : List ℕ} → Header s → headGood (getD s 4 0) (getD s 5 0) (getD s 6 0) (getD s 7 0) ≡ true → headAs 0 s ≡ headTaken s
+unfolding headTaken
+head-taken {s} h g = ap (λ (n : ℕ). headAs n s) (sym (number-good h g))
 
 header-inside : {s : List ℕ} → Header s → 8 ≤ length s
 header-inside {s} h = omega (arith, whole-at s 0 (h .some), h .size)
@@ -140,7 +138,7 @@ returns-5 c =
     let d = c .before in
     let h = header (d .before .before .before .before .before) in
     let g = sym (d .head-good .ensures) ∙ not-false _ (c .if4 .left) in
-    record { number = sym (number-good h g); inputs = λ _. refl; queues = λ _. refl; variables = λ _. refl; count = λ _. refl }
+    head-taken h g
 
 pub take-head-spec : {M : Type 1} → statement M
 take-head-spec =

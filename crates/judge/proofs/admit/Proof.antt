@@ -1,5 +1,6 @@
 -- `judge::admit` meets its contract: an operator that the judge keeps has queues and variables that have flags.
-use mathlib.Core.Path.{_≡_, _∙_, sym}
+use mathlib.Core.Path.{_≡_, refl, _∙_, sym}
+use borrow.Author.Tests.{ne-eqb}
 use borrow.Author.Needs.{needs}
 use Rattle.lists.proofs.Members.{all-below}
 use Rattle.operator.specs.Op.{names}
@@ -14,7 +15,7 @@ judged-requires : tie.Need-judged-requires
 judged-requires c κs = search needs
 
 returns : tie.Need-returns
-returns c = record { number = c .before .judged .ensures; next = λ e. absurd (c .if1 .taken e) }
+returns c = record { number = c .before .judged .ensures; known = rw (ne-eqb (c .before .judged .result) 0 (c .if1 .taken)) refl }
 
 kept-requires : tie.Need-kept-requires
 kept-requires c κs =
@@ -29,7 +30,9 @@ kept-requires c κs =
     )
 
 returns-2 : tie.Need-returns-2
-returns-2 c = search needs
+returns-2 c =
+    let j = c .before .before .judged in
+    record { number = sym (c .before .if1 .left) ∙ j .ensures; known = c .kept .ensures }
 
 pub admit-spec : {M : Type 1} → statement M
 admit-spec = tie.close (tie.spec judged-requires returns kept-requires returns-2)

@@ -11,20 +11,20 @@ use lib.Seq.{take-length}
 use lib.IntN.{ℤ, pos}
 use mir.Facts.{toZ-ofZ}
 use Rattle.lists.specs.Lists.{chain}
-use Rattle.lines.specs.Lines.{spaced}
+use Rattle.lines.specs.Lines.{spaced, SPACED}
 use Rattle.lines.proofs.Pieces.{Piece, piece-of, pieces-none, pieces-more, pieces-all}
 use Rattle.lines.proofs.LineLaws.{chain-take}
 use Rattle.lines.proofs.put_fields.Statement.{statement}
 use Rattle.lines.proofs.put_fields.Tie as tie
 
 abbrev Inv-loop : tie.InvT-loop
-Inv-loop s₀ at fields end₀ i₀ s end i = (i ≤ length fields) × Piece (12 * i) (chain spaced (take i fields)) s₀ at s end
+Inv-loop s₀ at fields end₀ i₀ s end i = (i ≤ length fields) × Piece (SPACED * i) (chain spaced (take i fields)) s₀ at s end
 
 abbrev μ-loop : tie.MeasureT-loop
 μ-loop s₀ at fields end₀ i₀ s end i = length fields - i
 
 loop-holds : tie.Need-loop-holds Inv-loop μ-loop
-loop-holds c = (omega arith, pieces-none 12 _ _)
+loop-holds c = (omega arith, pieces-none SPACED _ _)
 
 mul-z : tie.Need-mul-z Inv-loop μ-loop
 mul-z c = omega (arith, c .before .before .before .pre, c .loop-test .taken)
@@ -58,7 +58,7 @@ loop-again c =
     let fs = now (d .args .fields) in
     let e = chain-take spaced fs (pos 0) (l .i) (at-test .loop-test .taken)
     ∙ ap (λ (z : ℤ). chain spaced (take (l .i) fs) ++ spaced z) (sym (toZ-ofZ (sfits-of (at-z .z .given)))) in
-    (omega (arith, at-test .loop-test .taken), pieces-more 12 (l .i) _ (l .inv .1) (piece-of (at-put-spaced .put-spaced .ensures)) e)
+    (omega (arith, at-test .loop-test .taken), pieces-more SPACED (l .i) _ (l .inv .1) (piece-of (at-put-spaced .put-spaced .ensures)) e)
 
 same-length : tie.Need-same-length Inv-loop μ-loop
 same-length c = c .before .loop .inv .1 .size
@@ -68,7 +68,7 @@ returns c =
     let l = c .before .loop in
     let fs = now (c .before .before .before .args .fields) in
     let e : l .i ≡ length fs = omega arith in
-    pieces-all 12 (l .i) (length fs) e (ap (λ (k : ℕ). chain spaced (take k fs)) e ∙ ap (chain spaced) (take-length fs)) (l .inv .1)
+    pieces-all SPACED (l .i) (length fs) e (ap (λ (k : ℕ). chain spaced (take k fs)) e ∙ ap (chain spaced) (take-length fs)) (l .inv .1)
 
 pub put-fields-spec : {M : Type 1} → statement M
 put-fields-spec =

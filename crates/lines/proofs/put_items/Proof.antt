@@ -9,7 +9,7 @@ use denote.Ref.{now}
 use lib.ListN.{length, take, drop, length-drop}
 use lib.IntN.{ℤ}
 use lib.Seq.{length-take-le}
-use Rattle.store.specs.Store.{FIELDS}
+use Rattle.bounds.specs.Bounds.{FIELDS}
 use Rattle.store.specs.Queues.{itemsOf}
 use Rattle.lines.specs.Lines.{itemLine, queueLines, LINE}
 use Rattle.lines.proofs.Pieces.{Piece, piece-of, pieces-none, pieces-more, pieces-all}

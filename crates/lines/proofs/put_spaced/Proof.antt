@@ -7,6 +7,7 @@ use lib.ListN.{length-set}
 use mir.Facts.{toZ-ofZ}
 use Rattle.text.proofs.Digits.{length-integer}
 use Rattle.text.proofs.Putting.{puts-length}
+use Rattle.lines.specs.Lines.{SPACED}
 use Rattle.lines.proofs.Pieces.{piece, byte, then, whole}
 use borrow.Author.Needs.{needs}
 use Rattle.lines.proofs.put_spaced.Statement.{statement}
@@ -30,7 +31,7 @@ returns : tie.Need-returns
 returns c =
     let d = c .before .before .before .before .before in
     let p = rw (toZ-ofZ (d .fits .z)) at (c .before .before .put-integer .ensures) in
-    whole 12 (omega arith) (then (byte 32 (now (d .args .s)) (d .args .at)) (piece 11 (length-integer (d .args .z) (d .fits .z .sfits)) p))
+    whole SPACED (omega arith) (then (byte 32 (now (d .args .s)) (d .args .at)) (piece 11 (length-integer (d .args .z) (d .fits .z .sfits)) p))
 
 pub put-spaced-spec : {M : Type 1} → statement M
 put-spaced-spec =

@@ -7,7 +7,8 @@ use borrow.Author.Tests.{not-true, not-false}
 use Rattle.operator.specs.Memory.{view}
 use Rattle.machine.specs.Numbers.{decode}
 use Rattle.machine.specs.Calls.{saved}
-use Rattle.machine.specs.Working.{stateWith, fireFound, Answers}
+use Rattle.machine.specs.Answers.{Answers}
+use Rattle.machine.specs.Working.{stateWith, fireFound}
 use Rattle.machine.proofs.Trying.{refused-answers}
 use borrow.Author.Needs.{needs}
 use Rattle.machine.proofs.fire_found.Statement.{statement}

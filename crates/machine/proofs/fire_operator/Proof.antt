@@ -1,10 +1,8 @@
 -- `fire_operator` meets its contract: 10 where the queue is empty, the refusal of the attempt, or the item taken and put as the effect says.
 -- Assumes nothing.
-use mathlib.Core.Path.{_≡_, refl}
-use lib.ListN.{length}
+use mathlib.Core.Path.{refl}
 use denote.Ref.{now}
 use Rattle.operator.specs.Memory.{view}
-use Rattle.store.specs.Store.{QUEUES}
 use Rattle.machine.specs.Working.{stateWith}
 use Rattle.machine.proofs.Trying.{fire-empty, refused-of-number, room-left, fired, refused-answers}
 use borrow.Author.Needs.{needs}

@@ -8,9 +8,6 @@ use Rattle.machine.specs.Working.{raw}
 use borrow.Author.Needs.{needs}
 use Rattle.machine.proofs.put.Statement.{statement}
 use Rattle.machine.proofs.put.Tie as tie
-use Rattle.machine.proofs.put.Reads as reads
-use Rattle.machine.proofs.put.Lts as lts
-use Rattle.store.proofs.push.Reads as push-reads
 
 element-copy-out-n : tie.Need-element-copy-out-n
 element-copy-out-n c = search needs

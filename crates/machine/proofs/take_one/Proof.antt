@@ -8,9 +8,6 @@ use Rattle.machine.specs.Working.{raw}
 use borrow.Author.Needs.{needs}
 use Rattle.machine.proofs.take_one.Statement.{statement}
 use Rattle.machine.proofs.take_one.Tie as tie
-use Rattle.machine.proofs.take_one.Reads as reads
-use Rattle.machine.proofs.take_one.Lts as lts
-use Rattle.store.proofs.take.Reads as take-reads
 
 take-requires : tie.Need-take-requires
 take-requires c κs = search needs

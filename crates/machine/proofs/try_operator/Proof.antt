@@ -8,7 +8,8 @@ use lib.ListN.{length, getD}
 use denote.Ref.{now}
 use borrow.Author.Needs.{needs}
 use Rattle.operator.specs.Memory.{view}
-use Rattle.store.specs.Store.{QUEUES, part, firstOf}
+use Rattle.store.specs.Store.{part, firstOf}
+use Rattle.bounds.specs.Bounds.{QUEUES}
 use Rattle.store.specs.declared.Item.{Item}
 use Rattle.effect.specs.Effect.{Result, effect, waits, resultOf}
 use Rattle.effect.proofs.EffectLaws.{effect-puts-below}
@@ -61,7 +62,8 @@ none-of-requires c κs = search needs
 returns : tie.Need-returns
 returns c =
     let a = c .before .before .before .before .before .args in
-    attempt-refused (a .o) (a .q) (a .state) (now (a .store)) _ 9 (c .none-of .ensures) (fire-empty _ _ _ _ (c .before .if1 .taken))
+    attempt-refused (a .o) (a .q) (a .state) (now (a .store)) _ 10 _ (c .none-of .ensures) (c .before .before .first .ensures)
+    (fire-empty _ _ _ _ (c .before .if1 .taken))
 
 has-to-wait-requires : tie.Need-has-to-wait-requires
 has-to-wait-requires c κs = search needs
@@ -74,7 +76,7 @@ returns-2 c =
     let e = c .before .before .before in
     let a = entry e .args in
     let w = sym (c .before .before .has-to-wait .ensures) ∙ c .before .if2 .taken in
-    attempt-refused (a .o) (a .q) (a .state) (now (a .store)) _ 10 (c .none-of2 .ensures)
+    attempt-refused (a .o) (a .q) (a .state) (now (a .store)) _ 11 _ (c .none-of2 .ensures) (e .before .first .ensures)
     (fire-waits (a .o) (a .q) (a .state) (now (a .store)) (there e) w)
 
 act-requires : tie.Need-act-requires
@@ -96,7 +98,8 @@ returns-3 c =
     let d = entry-3 k in
     let a = d .args in
     let f = sym (c .before .before .no-room .ensures) ∙ c .before .if3 .taken in
-    attempt-refused (a .o) (a .q) (a .state) (now (a .store)) _ 11 (c .none-of3 .ensures)
+    attempt-refused (a .o) (a .q) (a .state) (now (a .store)) _ 12 _ (c .none-of3 .ensures)
+    (k .before .before .before .before .first .ensures)
     (fire-full (a .o) (a .q) (a .state) (now (a .store)) (there (k .before .before .before)) (turn (k .before)) (many d) (d .pre)
     (k .act .result) (acts k) f)
 

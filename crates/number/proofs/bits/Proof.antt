@@ -1,6 +1,6 @@
 -- `number::bits` meets its contract. Every need speaks of `toZ (ofZ z)`, which is z; then the laws of Sign.
-use mathlib.Core.Path.{_≡_, subst}
-use mathlib.Core.Bool.{Bool, true, false}
+use mathlib.Core.Path.{_≡_}
+use mathlib.Core.Bool.{false}
 use lib.IntN.{ℤ, pos, negsuc, _-ℤ_}
 use lib.Signed.{leZ}
 use mir.Syntax.{w32}
@@ -9,8 +9,6 @@ use mir.Facts.{toZ-ofZ}
 use Rattle.number.proofs.Sign.{nonneg-cast, nonneg-bits, neg-fits, neg-cast, neg-most, neg-bits}
 use Rattle.number.proofs.bits.Statement.{statement}
 use Rattle.number.proofs.bits.Tie as tie
-use Rattle.number.proofs.bits.Reads as reads
-use Rattle.number.proofs.bits.Lts as lts
 
 cast-result : tie.Need-cast-result
 cast-result c =

@@ -1,15 +1,10 @@
-use borrow.Author.Needs.{sfits-of}
+use borrow.Author.Needs.{sfits-of, needs}
 use mathlib.Core.Path.{_∙_, ap}
 use mir.Syntax.{w32}
 use mir.Val.{toZ}
 use mir.Facts.{toZ-ofZ}
-use borrow.Author.Needs.{needs}
 use Rattle.number.proofs.int_at.Statement.{statement}
 use Rattle.number.proofs.int_at.Tie as tie
-use Rattle.number.proofs.int_at.Reads as reads
-use Rattle.number.proofs.int_at.Lts as lts
-use Rattle.number.proofs.bits_at.Reads as bits-at-reads
-use Rattle.number.proofs.signed.Reads as signed-reads
 
 -- src/lib.rt:52:12
 bits-at-requires : tie.Need-bits-at-requires

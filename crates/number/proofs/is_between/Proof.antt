@@ -1,8 +1,6 @@
 use mir.Facts.{toZ-ofZ}
 use Rattle.number.proofs.is_between.Statement.{statement}
 use Rattle.number.proofs.is_between.Tie as tie
-use Rattle.number.proofs.is_between.Reads as reads
-use Rattle.number.proofs.is_between.Lts as lts
 
 -- src/lib.rt:80:1
 returns : tie.Need-returns

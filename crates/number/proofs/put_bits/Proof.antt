@@ -1,4 +1,3 @@
-use mathlib.Core.Path.{refl}
 use lib.ListN.{length-set}
 use native.Mathlib.Numerals.{add-one, add-two, add-three}
 use native.Mathlib.Omega.{arith}
@@ -6,8 +5,6 @@ use Rattle.number.specs.Number.{bitsBytes}
 use borrow.Author.Needs.{needs}
 use Rattle.number.proofs.put_bits.Statement.{statement}
 use Rattle.number.proofs.put_bits.Tie as tie
-use Rattle.number.proofs.put_bits.Reads as reads
-use Rattle.number.proofs.put_bits.Lts as lts
 
 -- src/lib.rt:59:13
 cast-s : tie.Need-cast-s

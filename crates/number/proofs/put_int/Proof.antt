@@ -10,10 +10,6 @@ use Rattle.number.specs.Number.{bitsBytes}
 use borrow.Author.Needs.{needs}
 use Rattle.number.proofs.put_int.Statement.{statement}
 use Rattle.number.proofs.put_int.Tie as tie
-use Rattle.number.proofs.put_int.Reads as reads
-use Rattle.number.proofs.put_int.Lts as lts
-use Rattle.number.proofs.bits.Reads as bits-reads
-use Rattle.number.proofs.put_bits.Reads as put-bits-reads
 
 -- src/lib.rt:69:21
 bits-requires : tie.Need-bits-requires

@@ -5,8 +5,6 @@ use Rattle.number.specs.Number.{shortBytes}
 use borrow.Author.Needs.{needs}
 use Rattle.number.proofs.put_short.Statement.{statement}
 use Rattle.number.proofs.put_short.Tie as tie
-use Rattle.number.proofs.put_short.Reads as reads
-use Rattle.number.proofs.put_short.Lts as lts
 
 -- src/lib.rt:52:13
 cast-s : tie.Need-cast-s

@@ -5,9 +5,6 @@ use Rattle.number.specs.Number.{shortOf}
 use borrow.Author.Needs.{needs}
 use Rattle.number.proofs.short_at.Statement.{statement}
 use Rattle.number.proofs.short_at.Tie as tie
-use Rattle.number.proofs.short_at.Reads as reads
-use Rattle.number.proofs.short_at.Lts as lts
-use Rattle.number.proofs.wide.Reads as wide-reads
 
 -- src/lib.rt:43:18
 shared-slice-read-wide : tie.Need-shared-slice-read-wide

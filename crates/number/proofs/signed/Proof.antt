@@ -4,8 +4,6 @@ use Rattle.number.proofs.Sign.{high, high-fits}
 use borrow.Author.Needs.{needs}
 use Rattle.number.proofs.signed.Statement.{statement}
 use Rattle.number.proofs.signed.Tie as tie
-use Rattle.number.proofs.signed.Reads as reads
-use Rattle.number.proofs.signed.Lts as lts
 
 -- src/lib.rt:19:9
 cast-result : tie.Need-cast-result

@@ -4,16 +4,10 @@ use lib.IntN.{ℤ}
 use mir.Syntax.{w32}
 use mir.Val.{toZ, ofZ}
 use mir.Facts.{toZ-ofZ}
-use borrow.Author.Needs.{sfits-of}
+use borrow.Author.Needs.{sfits-of, needs}
 use Rattle.number.specs.Number.{wrapAdd}
-use borrow.Author.Needs.{needs}
 use Rattle.number.proofs.wrap_add.Statement.{statement}
 use Rattle.number.proofs.wrap_add.Tie as tie
-use Rattle.number.proofs.wrap_add.Reads as reads
-use Rattle.number.proofs.wrap_add.Lts as lts
-use Rattle.number.proofs.bits.Reads as bits-reads
-use Rattle.number.proofs.signed.Reads as signed-reads
-use Rattle.std.proofs.num.wrapping_add_u32.Reads as wrapping-add-u32-reads
 
 sum : (x y : ℕ) (a b : ℤ) → x ≡ ofZ w32 a → y ≡ ofZ w32 b → toZ w32 ((x + y) % 2 ^ 32) ≡ wrapAdd a b
 sum x y a b e f = rw (e, f)
@@ -40,7 +34,8 @@ returns c =
     let d = c .before .before .before .before in
     let a = c .before .before .before .bits .ensures ∙ ap (ofZ w32) (toZ-ofZ (d .fits .a)) in
     let b = c .before .before .bits2 .ensures ∙ ap (ofZ w32) (toZ-ofZ (d .fits .b)) in
-    toZ-ofZ {w = w32} (sfits-of (c .signed .ok)) ∙ c .signed .ensures ∙ ap (toZ w32) (c .before .wrapping-add-u32 .ensures) ∙ sum _ _ (d .args .a) (d .args .b) a b
+    toZ-ofZ {w = w32} (sfits-of (c .signed .ok)) ∙ c .signed .ensures
+    ∙ ap (toZ w32) (c .before .wrapping-add-u32 .ensures) ∙ sum _ _ (d .args .a) (d .args .b) a b
 
 pub wrap-add-spec : {M : Type 1} → statement M
 wrap-add-spec =

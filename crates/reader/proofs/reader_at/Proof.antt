@@ -5,6 +5,7 @@ use native.Mathlib.Omega.{arith}
 use borrow.Author.Needs.{needs}
 use lib.ListN.{length, List·getD-eq-default}
 use Rattle.lists.proofs.Places.{getD-any}
+use Rattle.bounds.specs.Bounds.{OPERATORS}
 use Rattle.reader.proofs.reader_at.Statement.{statement}
 use Rattle.reader.proofs.reader_at.Tie as tie
 
@@ -15,12 +16,12 @@ cast-result : tie.Need-cast-result
 cast-result c = search needs
 
 returns : tie.Need-returns
-returns c = getD-any (c .before .args .t1) (c .before .args .q) 0 16 (omega arith)
+returns c = getD-any (c .before .args .t1) (c .before .args .q) 0 OPERATORS (omega arith)
 
 returns-2 : tie.Need-returns-2
 returns-2 c =
     let h : length (c .before .args .t1) ≤ c .before .args .q = omega arith in
-    sym (List·getD-eq-default (c .before .args .t1) 16 h)
+    sym (List·getD-eq-default (c .before .args .t1) OPERATORS h)
 
 pub reader-at-spec : {M : Type 1} → statement M
 reader-at-spec = tie.close (tie.spec array-read-result cast-result returns returns-2)

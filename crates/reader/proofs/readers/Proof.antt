@@ -11,15 +11,14 @@ use Rattle.lists.specs.Lists.{build, all}
 use Rattle.lists.proofs.Members.{all-below}
 use Rattle.operator.specs.Op.{Op, double, reads}
 use Rattle.operator.specs.Memory.{view, Ready}
-use Rattle.format.specs.Head.{OPERATORS}
+use Rattle.bounds.specs.Bounds.{OPERATORS, QUEUES}
 use Rattle.sheet.specs.declared.Sheet.{Sheet}
 use Rattle.sheet.specs.Answer.{accepted}
 use Rattle.sheet.specs.Sheet.{opAt, viewSheet}
 use Rattle.sheet.specs.Check.{checkOf}
 use Rattle.sheet.proofs.Accepted.{ranges-of-accepted}
 use Rattle.sheet.proofs.Placed.{ops-many, ops-at}
-use Rattle.store.specs.Store.{QUEUES}
-use Rattle.machine.specs.Working.{readerFrom, readersWith}
+use Rattle.machine.specs.Readers.{readerFrom, readersWith}
 use Rattle.machine.proofs.AbleOf.{sound-at, able-of-accepted}
 use Rattle.machine.proofs.ReaderLaws.{readers-start, readers-turn}
 use Rattle.reader.proofs.readers.Statement.{statement}

@@ -11,8 +11,8 @@ use Rattle.lists.specs.Lists.{all}
 use Rattle.lists.proofs.Tests.{all-build}
 use Rattle.operator.specs.Memory.{PLACES, ways}
 use Rattle.judge.proofs.Shapes.{ins-small, ins-told}
-use Rattle.store.specs.Store.{QUEUES}
-use Rattle.machine.specs.Working.{readersWith}
+use Rattle.bounds.specs.Bounds.{QUEUES}
+use Rattle.machine.specs.Readers.{readersWith}
 use Rattle.machine.proofs.ReaderLaws.{readers-more}
 use Rattle.reader.proofs.with_reader.Statement.{statement}
 use Rattle.reader.proofs.with_reader.Tie as tie

@@ -4,17 +4,20 @@ use mathlib.Core.Path.{_≡_, sym}
 use Prim.Native.Nat.{_*_}
 use native.Mathlib.Omega.{arith}
 use lib.ListN.{length}
+use denote.Ref.{now}
+use Rattle.bounds.specs.Bounds.{VARIABLES, QUEUES, ROOM}
+use Rattle.sheet.specs.Sheet.{viewSheet}
 use Rattle.sheet.proofs.Accepted.{ranges-of-accepted}
+use Rattle.machine.specs.Numbers.{decode}
 use Rattle.lines.specs.Lines.{LINE}
 use Rattle.lines.proofs.Pieces.{piece-of}
-use Rattle.store.specs.Store.{QUEUES, ROOM}
 use Rattle.report.proofs.Printing.{figures-printed}
 use borrow.Author.Needs.{needs}
 use Rattle.report.proofs.put_figures.Statement.{statement}
 use Rattle.report.proofs.put_figures.Tie as tie
 
 -- a state has its sixteen variables
-wide : (d : tie.Start) → length (d .args .r .state .vars) ≡ 16
+wide : (d : tie.Start) → length (d .args .r .state .vars) ≡ VARIABLES
 wide d = search needs
 
 put-counts-requires : tie.Need-put-counts-requires
@@ -38,9 +41,9 @@ put-variables-requires c κs =
     let d = at-put-counts .before .before .before .before .before in
     let p = piece-of {n = LINE} (at-put-counts .put-counts .ensures) in
     let o = piece-of {n = LINE * ROOM * QUEUES} (at-put-outputs .put-outputs .ensures) in (
-      omega (arith, d .pre .0, ranges-of-accepted (d .args .r .sheet) (d .pre .1 .sheet)),
+      omega (arith, d .pre .0, ranges-of-accepted (d .args .r .sheet) (d .pre .1 .stands .sheet)),
       omega
-          (arith, wide d, ranges-of-accepted (d .args .r .sheet) (d .pre .1 .sheet)),
+          (arith, wide d, ranges-of-accepted (d .args .r .sheet) (d .pre .1 .stands .sheet)),
     )
 
 same-length : tie.Need-same-length
@@ -52,8 +55,11 @@ returns c =
     let at-put-outputs = at-put-variables .before .before .before .before .before .before .before in
     let at-put-counts = at-put-outputs .before .before .before .before in
     let d = at-put-counts .before .before .before .before .before in
-    figures-printed (d .args .r .fired) (d .args .r .skipped) (d .args .r .rest) _ _ (d .args .r .sheet .variables)
-    (omega (arith, ranges-of-accepted (d .args .r .sheet) (d .pre .1 .sheet))) (at-put-counts .put-counts .ensures)
+    let r = d .args .r in
+    figures-printed (viewSheet (r .sheet))
+    (record { fired = r .fired; skipped = r .skipped; machine = decode (r .state) (now (d .args .store)) }) (r .rest) (d .pre .1 .rest)
+    (r .sheet .variables)
+    (omega (arith, ranges-of-accepted (d .args .r .sheet) (d .pre .1 .stands .sheet))) (at-put-counts .put-counts .ensures)
     (at-put-outputs .put-outputs .ensures)
     (at-put-variables .put-variables .ensures)
 

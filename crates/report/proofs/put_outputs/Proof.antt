@@ -6,9 +6,8 @@ use native.Mathlib.Omega.{arith}
 use borrow.Author.Needs.{needs}
 use lib.ListN.{length}
 use denote.Ref.{now}
-use Rattle.store.specs.Store.{QUEUES}
-use Rattle.report.proofs.Outputs.{Printing, printing-starts, printing-goes-on, printing-ends}
-use Rattle.report.proofs.Outputs.{printing-queues, printing-store, printing-room}
+use Rattle.bounds.specs.Bounds.{QUEUES}
+use Rattle.report.proofs.Outputs.{Printing, printing-starts, printing-goes-on, printing-ends, printing-queues, printing-store, printing-room}
 use Rattle.report.proofs.put_outputs.Statement.{statement}
 use Rattle.report.proofs.put_outputs.Tie as tie
 

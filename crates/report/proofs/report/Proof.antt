@@ -2,7 +2,10 @@
 -- Assumes nothing.
 use denote.Ref.{now}
 use native.Mathlib.Omega.{arith}
+use Rattle.trial.specs.Trial.{trialOf}
+use Rattle.trial.proofs.Within.{trial-within}
 use Rattle.report.proofs.Printing.{report-short, report-done}
+use Rattle.report.proofs.Telling.{tells, shows}
 use borrow.Author.Needs.{needs}
 use Rattle.report.proofs.report.Statement.{statement}
 use Rattle.report.proofs.report.Tie as tie
@@ -20,7 +23,12 @@ slice-aggregate-put-trial : tie.Need-slice-aggregate-put-trial
 slice-aggregate-put-trial c = search needs
 
 put-trial-requires : tie.Need-put-trial-requires
-put-trial-requires c κs = search needs
+put-trial-requires c κs =
+    let at-try-input = c .before .before .before in
+    let at-known = at-try-input .before .before .before .before in
+    let i = now (at-known .before .args .input) in
+    let w = trial-within i (λ j. at-known .shared-slice-known .given j .fits) in
+    (search needs, shows (trialOf i) _ (at-try-input .try-input .result) _ (at-try-input .try-input .ensures) w)
 
 same-length : tie.Need-same-length
 same-length c = search needs
@@ -29,9 +37,12 @@ returns-2 : tie.Need-returns-2
 returns-2 c =
     let at-put-trial = c .before .before in
     let at-try-input = at-put-trial .before .before .before .before in
-    let d = at-try-input .before .before .before .before .before in
-    report-done (now (d .args .input)) (now (d .args .buffer)) _ (at-put-trial .put-trial .result) _ (omega arith)
-    (at-try-input .try-input .ensures .tells) (at-put-trial .put-trial .ensures)
+    let at-known = at-try-input .before .before .before .before in
+    let d = at-known .before in
+    let i = now (d .args .input) in
+    let w = trial-within i (λ j. at-known .shared-slice-known .given j .fits) in
+    report-done i (now (d .args .buffer)) _ (at-put-trial .put-trial .result) _ (omega arith)
+    (tells (trialOf i) _ (at-try-input .try-input .result) _ (at-try-input .try-input .ensures) w) (at-put-trial .put-trial .ensures)
 
 pub report-spec : {M : Type 1} → statement M
 report-spec =

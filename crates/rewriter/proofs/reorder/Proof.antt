@@ -1,72 +1,47 @@
--- `rewriter::reorder` meets its contract: what does not stand is refused, and what stands is reordered.
-use mathlib.Core.Path.{refl}
+-- `rewriter::reorder` meets its contract: a sheet that is not accepted and calm is refused, and any other is what `reorder_calm` answers.
+-- Assumes nothing.
 use borrow.Author.Needs.{needs}
 use Rattle.sheet.specs.Sheet.{viewSheet}
-use Rattle.rewriter.specs.Rewrite.{reorder}
-use Rattle.rewriter.proofs.Answers.{reorder-if-calm, arm-checked, arm-stands, arm-refused}
+use Rattle.rewrite_rules.specs.Rewrite.{reorder}
+use Rattle.rewriter.specs.Calls.{reorderOf}
+use Rattle.rewriter.proofs.Answers.{calm-checked, calm-answers, calm-refuses}
 use Rattle.rewriter.proofs.reorder.Statement.{statement}
 use Rattle.rewriter.proofs.reorder.Tie as tie
 
-standing-requires : tie.Need-standing-requires
-standing-requires c κs = search needs
+calm-stands-requires : tie.Need-calm-stands-requires
+calm-stands-requires c κs = search needs
 
-enum-told : tie.Need-enum-told
-enum-told c = search needs
+is-done-requires : tie.Need-is-done-requires
+is-done-requires c κs = search needs
 
 reorder-calm-requires : tie.Need-reorder-calm-requires
 reorder-calm-requires c κs =
-    let k = c .before .before in
-    let a = k .before .args in
-    arm-checked (a .t) _ (reorder (viewSheet (a .t)) (a .a)) (reorder-if-calm (a .t) (a .a))
-    (k .standing .result) (k .standing .ensures) (c .enum-told .given .1)
-
-enum-known-s : tie.Need-enum-known-s
-enum-known-s c = search needs
-
-refused-at-requires : tie.Need-refused-at-requires
-refused-at-requires c κs = search needs
-
-enum-known-s-2 : tie.Need-enum-known-s-2
-enum-known-s-2 c = search needs
-
-refused-requires : tie.Need-refused-requires
-refused-requires c κs = search needs
+    let d = c .before in
+    let k = d .before in
+    calm-checked (k .before .args .t) (k .calm-stands .result) (k .calm-stands .ensures) (d .is-done .result) (d .is-done .ensures) (c .if1 .taken)
 
 returns : tie.Need-returns
+unfolding reorderOf
 returns c =
-    let k = c .before .before .before in
-    let a = k .before .args in
-    arm-stands (a .t) _ (reorder (viewSheet (a .t)) (a .a)) (reorder-if-calm (a .t) (a .a))
-    (k .standing .result) (k .standing .ensures) (c .before .enum-told .given .1) _ _
-    (c .reorder-calm .ensures)
+    let d = c .before .before in
+    let k = d .before in
+    let s = k .before in
+    calm-answers (s .args .t) (k .calm-stands .result) (k .calm-stands .ensures) (d .is-done .result) (d .is-done .ensures)
+    (reorder (viewSheet (s .args .t)) (s .args .a)) _ _ (c .before .if1 .taken) (c .reorder-calm .ensures)
+
+not-rewritten-requires : tie.Need-not-rewritten-requires
+not-rewritten-requires c κs = search needs
 
 returns-2 : tie.Need-returns-2
+unfolding reorderOf
 returns-2 c =
-    let k = c .before .before .before .before in
-    let a = k .before .args in
-    arm-refused (a .t) _ (reorder (viewSheet (a .t)) (a .a)) (reorder-if-calm (a .t) (a .a))
-    (k .standing .result) (k .standing .ensures) _ (c .before .before .s .given .1) refl _ _
-    (c .refused-at .ensures)
-
-returns-3 : tie.Need-returns-3
-returns-3 c =
-    let k = c .before .before .before .before in
-    let a = k .before .args in
-    arm-refused (a .t) _ (reorder (viewSheet (a .t)) (a .a)) (reorder-if-calm (a .t) (a .a))
-    (k .standing .result) (k .standing .ensures) _ (c .before .before .s2 .given .1) refl _ _
-    (c .refused .ensures)
+    let d = c .before .before in
+    let k = d .before in
+    let s = k .before in
+    calm-refuses (s .args .t) (k .calm-stands .result) (k .calm-stands .ensures) (d .is-done .result) (d .is-done .ensures)
+    (reorder (viewSheet (s .args .t)) (s .args .a)) _ _ (c .before .if1 .left) (c .not-rewritten .ensures)
 
 pub reorder-spec : {M : Type 1} → statement M
 reorder-spec =
     tie.close
-    (tie.spec
-    standing-requires
-    enum-told
-    reorder-calm-requires
-    enum-known-s
-    refused-at-requires
-    enum-known-s-2
-    refused-requires
-    returns
-    returns-2
-    returns-3)
+    (tie.spec calm-stands-requires is-done-requires reorder-calm-requires returns not-rewritten-requires returns-2)

@@ -11,14 +11,14 @@ use borrow.Author.Tests.{eq-eqb, ne-eqb}
 use Rattle.sheet.specs.declared.Answer.the-variants.{Done, Refused}
 use Rattle.sheet.specs.Answer.{paper}
 use Rattle.store.specs.Store.{STORE}
-use Rattle.machine.specs.declared.Fired.{Fired}
+use Rattle.machine.specs.declared.Called.{Called}
 use Rattle.machine.specs.declared.State.{State}
 use Rattle.machine.specs.Calls.{freshState, freshOf}
-use Rattle.machine.specs.Working.{Answers}
+use Rattle.machine.specs.Answers.{Answers}
 use Rattle.runner.proofs.fresh.Statement.{statement}
 use Rattle.runner.proofs.fresh.Tie as tie
 
-wrong-length : (st : State) (s : List ℤ) (r : Fired) → (length s ≡ STORE → ⊥) → (r .answer ≡ Refused 8) × (r .state ≡ st) →
+wrong-length : (st : State) (s : List ℤ) (r : Called) → (length s ≡ STORE → ⊥) → (r .answer ≡ Refused 8) × (r .state ≡ st) →
     Answers (freshOf st s) (r .answer) (r .state) s
 unfolding freshOf
 wrong-length st s r n d = rw (ne-eqb (length s) STORE n) (record { answered = ap paper (d .0); stated = d .1; stored = refl })

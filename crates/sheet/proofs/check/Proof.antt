@@ -9,11 +9,10 @@ use borrow.Author.Tests.{not-true, not-false}
 use Rattle.lists.proofs.Build.{build-length}
 use Rattle.operator.specs.Memory.{view}
 use Rattle.judge.specs.Judge.{Known, known, whole}
-use Rattle.judge.specs.Seen.{knownBy}
 use Rattle.format.specs.Head.{headGood}
-use Rattle.format.proofs.Heads.{HeadRanges, ranges-of-good}
+use Rattle.format.proofs.Heads.{ranges-of-good}
 use Rattle.sheet.specs.declared.Sheet.{Sheet}
-use Rattle.sheet.specs.Answer.{Paper, accepted, refusedAt}
+use Rattle.sheet.specs.Answer.{accepted, refusedAt}
 use Rattle.sheet.specs.Sheet.{opAt, viewTo, viewSheet}
 use Rattle.sheet.specs.Check.{Kept, stopped, kept, checkFrom, ending, vacantFrom, checkEnd, checkOf}
 use Rattle.sheet.proofs.check.Statement.{statement}
@@ -53,7 +52,8 @@ head-true : (c : tie.After-judge-operators) → headTest (c .before .before .bef
 head-true c = sym (c .before .before .head-good .ensures) ∙ not-false _ (c .before .if1 .left)
 
 -- every operator kept, nothing left over: the answer goes by the queues
-all-kept : (c : tie.After-all-defined) (w : Bool) → c .all-defined .result ≡ w → checkOf (c .before .before .before .before .before .before .before .before .before .args .t)
+all-kept : (c : tie.After-all-defined) (w : Bool) → c .all-defined .result ≡ w →
+    checkOf (c .before .before .before .before .before .before .before .before .before .args .t)
     ≡ cond w accepted (refusedAt 5 (c .before .before .before .before .before .before .before .before .before .args .t .count + 1))
 all-kept c w r =
     let e = c .before .before .before .before .before in

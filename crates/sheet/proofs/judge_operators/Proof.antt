@@ -1,21 +1,17 @@
 -- `sheet::judge_operators` meets its contract: what is left to check from here is what was to check at the start,
 -- and the flags are what is known of the operators before.
 use mathlib.Core.Path.{_≡_, refl, sym, ap, _∙_}
-use mathlib.Core.Bool.{true}
-use mathlib.Core.List.{[]}
 use Prim.Native.Nat.{ℕ, _+_, _-_, _≤_, _<_}
 use native.Mathlib.Omega.{arith}
 use borrow.Author.Needs.{needs}
 use borrow.Author.Tests.{eq-eqb, ne-eqb}
-use Rattle.operator.specs.Memory.{memoryNumber, view, Ready}
+use Rattle.operator.specs.Memory.{memoryNumber, view}
 use Rattle.operator.proofs.ViewLaws.{ready-of-number}
-use Rattle.judge.specs.Judge.{Known, known, judge, judgeBy, after}
+use Rattle.judge.specs.Judge.{Known, known, judgeBy, after}
 use Rattle.judge.specs.Seen.{knownBy}
 use Rattle.judge.specs.declared.Seen.{Seen}
-use Rattle.judge.proofs.KnownLaws.{known-with}
-use Rattle.format.specs.Head.{headGood}
+use Rattle.judge.proofs.KnownLaws.{known-with, known-of-kept}
 use Rattle.format.proofs.Heads.{HeadRanges, ranges-of-good}
-use Rattle.sheet.specs.declared.Judged.{Judged}
 use Rattle.sheet.specs.declared.Sheet.{Sheet}
 use Rattle.sheet.specs.Sheet.{opAt, viewTo}
 use Rattle.sheet.specs.Check.{numberIn, checkFrom}
@@ -142,7 +138,7 @@ loop-again c =
     (e .if1 .left) (l .loop .inv .2) (r .ensures .number) in (
       omega arith,
       left-next t (l .loop .i) (r .result .number) (e .before .before .before .loop-test .taken) (l .loop .inv .1) m (d .if2 .left),
-      known-next t (l .loop .i) (l .loop .seen) (r .result .seen) (l .loop .inv .2) (r .ensures .next (d .if2 .left)),
+      known-next t (l .loop .i) (l .loop .seen) (r .result .seen) (l .loop .inv .2) (known-of-kept (r .ensures) (d .if2 .left)),
     )
 
 returns-3 : tie.Need-returns-3 Inv-loop μ-loop

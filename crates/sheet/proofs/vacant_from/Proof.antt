@@ -1,7 +1,7 @@
 -- `sheet::vacant_from` meets its contract: every place passed is one below N or vacant.
 use mathlib.Core.Path.{_≡_, refl, sym, ap, _∙_}
-use mathlib.Core.Bool.{Bool, true, false, _||_}
-use Prim.Native.Nat.{ℕ, _+_, _-_, _≤_}
+use mathlib.Core.Bool.{Bool, true, _||_}
+use Prim.Native.Nat.{ℕ, _-_, _≤_}
 use native.Mathlib.Omega.{arith}
 use lib.Dec.{ltb}
 use borrow.Author.Needs.{needs}
@@ -9,10 +9,9 @@ use borrow.Author.Tests.{not-true, not-false}
 use Rattle.lists.specs.Lists.{build, all}
 use Rattle.lists.proofs.Tests.{all-more, all-stop}
 use Rattle.operator.specs.Memory.{vacant}
-use Rattle.format.specs.Head.{OPERATORS}
+use Rattle.bounds.specs.Bounds.{OPERATORS}
 use Rattle.sheet.specs.declared.Sheet.{Sheet}
 use Rattle.sheet.specs.Sheet.{opAt}
-use Rattle.sheet.specs.Check.{vacantFrom}
 use Rattle.sheet.proofs.vacant_from.Statement.{statement}
 use Rattle.sheet.proofs.vacant_from.Tie as tie
 

@@ -2,9 +2,6 @@ use borrow.Author.Tests.{lt-ltb, le-ltb}
 use borrow.Author.Needs.{needs}
 use Rattle.sheet.proofs.vacant_past.Statement.{statement}
 use Rattle.sheet.proofs.vacant_past.Tie as tie
-use Rattle.sheet.proofs.vacant_past.Reads as reads
-use Rattle.sheet.proofs.vacant_past.Lts as lts
-use Rattle.operator.proofs.is_vacant.Reads as is-vacant-reads
 
 -- src/lib.rt:80:9
 returns : tie.Need-returns

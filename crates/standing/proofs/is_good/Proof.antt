@@ -16,7 +16,8 @@ use Rattle.judge.proofs.Loops.{first-fails, second-decides}
 use Rattle.sheet.specs.Sheet.{viewSheet}
 use Rattle.sheet.proofs.Accepted.{ranges-of-accepted}
 use Rattle.store.specs.Store.{STORE}
-use Rattle.store.specs.Quiet.{isZero, quietFrom}
+use Rattle.store.specs.Quiet.{quietFrom}
+use Rattle.number.specs.Number.{isZero}
 use Rattle.effect.specs.Effect.{cursorGood}
 use Rattle.machine.specs.declared.State.{State}
 use Rattle.machine.specs.Numbers.{good}

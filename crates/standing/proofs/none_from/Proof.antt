@@ -11,7 +11,7 @@ use lib.Dec.{eqb}
 use lib.ListN.{length, getD, drop, drop-of-length-le}
 use lib.Seq.{drop-cons}
 use Rattle.lists.specs.Lists.{all}
-use Rattle.store.specs.Store.{QUEUES}
+use Rattle.bounds.specs.Bounds.{QUEUES}
 use Rattle.standing.proofs.none_from.Statement.{statement}
 use Rattle.standing.proofs.none_from.Tie as tie
 

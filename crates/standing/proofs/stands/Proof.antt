@@ -14,7 +14,7 @@ use Rattle.sheet.specs.Sheet.{viewSheet}
 use Rattle.sheet.specs.Check.{checkOf}
 use Rattle.machine.specs.declared.State.{State}
 use Rattle.machine.specs.Numbers.{good}
-use Rattle.machine.specs.Calls.{standing}
+use Rattle.machine.specs.Calls.{standsOf}
 use Rattle.standing.proofs.stands.Statement.{statement}
 use Rattle.standing.proofs.stands.Tie as tie
 
@@ -23,13 +23,13 @@ told : (t : Sheet) (a b : Answer) → paper a ≡ checkOf t → a ≡ b → chec
 told t a b h e = sym h ∙ ap paper e
 
 module _ (t : Sheet) (st : State) (s : List ℤ) where
-  by-numbers : (b : Bool) → checkOf t ≡ accepted → good (viewSheet t) st s ≡ b → cond b accepted (refused 8) ≡ standing t st s
+  by-numbers : (b : Bool) → checkOf t ≡ accepted → good (viewSheet t) st s ≡ b → cond b accepted (refused 8) ≡ standsOf t st s
   by-numbers b h g = rw (h, g)
 
-  by-record : (number spot : ℕ) → checkOf t ≡ refusedAt number spot → refusedAt number spot ≡ standing t st s
+  by-record : (number spot : ℕ) → checkOf t ≡ refusedAt number spot → refusedAt number spot ≡ standsOf t st s
   by-record number spot h = rw h
 
-  by-number : (number : ℕ) → checkOf t ≡ refused number → refused number ≡ standing t st s
+  by-number : (number : ℕ) → checkOf t ≡ refused number → refused number ≡ standsOf t st s
   by-number number h = rw h
 
 standing-sheet : (c : tie.After-enum-told) → checkOf (c .before .before .before .args .t) ≡ accepted

@@ -2,11 +2,20 @@
 use mathlib.Core.Path.{_≡_, _∙_, sym}
 use mathlib.Core.Bool.{Bool, true, _&&_}
 use lib.Dec.{eqb}
+use mir.Syntax.{w32}
+use mir.Val.{toZ, ofZ}
 use borrow.Author.Needs.{needs}
-use borrow.Author.Tests.{eq-eqb, ne-eqb}
+use borrow.Author.Tests.{eq-eqb, ne-eqb, not-true, not-false}
 use Rattle.step.specs.Step.{codeOf, blank}
 use Rattle.step.proofs.is_blank.Statement.{statement}
 use Rattle.step.proofs.is_blank.Tie as tie
+
+-- at the entry, where the search has few records to look through
+low-back : (d : tie.Start) → toZ w32 (ofZ w32 (d .args .t .low)) ≡ d .args .t .low
+low-back d = search needs
+
+high-back : (d : tie.Start) → toZ w32 (ofZ w32 (d .args .t .high)) ≡ d .args .t .high
+high-back d = search needs
 
 code-zero : (d : tie.Else1) → eqb (codeOf (d .before .before .args .t .func)) 0 ≡ true
 code-zero d = eq-eqb _ 0 (sym (d .before .code .ensures) ∙ d .if1 .left)
@@ -39,13 +48,21 @@ returns-4 c =
     let e2 = e3 .before .before in
     simp (code-zero (e2 .before .before), eq-eqb _ 0 (e2 .if2 .left), eq-eqb _ 0 (e3 .if3 .left), ne-eqb _ 0 (c .if4 .taken))
 
+is-zero-requires : tie.Need-is-zero-requires
+is-zero-requires c κs = search needs
+
 returns-5 : tie.Need-returns-5
 unfolding blank
 returns-5 c =
     let e4 = c .before .before .before in
     let e3 = e4 .before .before in
     let e2 = e3 .before .before in
-    simp (code-zero (e2 .before .before), eq-eqb _ 0 (e2 .if2 .left), eq-eqb _ 0 (e3 .if3 .left), eq-eqb _ 0 (e4 .if4 .left), ne-eqb _ 0 (c .if5 .taken))
+    let start = e2 .before .before .before .before in
+    let low = rw (low-back start) at (c .before .is-zero .ensures) in
+    simp (code-zero (e2 .before .before), eq-eqb _ 0 (e2 .if2 .left), eq-eqb _ 0 (e3 .if3 .left), eq-eqb _ 0 (e4 .if4 .left), sym low ∙ not-true _ (c .if5 .taken))
+
+is-zero-requires-2 : tie.Need-is-zero-requires-2
+is-zero-requires-2 c κs = search needs
 
 returns-6 : tie.Need-returns-6
 unfolding blank
@@ -54,9 +71,22 @@ returns-6 c =
     let e4 = e5 .before .before .before in
     let e3 = e4 .before .before in
     let e2 = e3 .before .before in
-    last-test _ _ _ _ _ _ (code-zero (e2 .before .before)) (eq-eqb _ 0 (e2 .if2 .left)) (eq-eqb _ 0 (e3 .if3 .left)) (eq-eqb _ 0 (e4 .if4 .left))
-    (eq-eqb _ 0 (e5 .if5 .left))
+    let start = e2 .before .before .before .before in
+    let low = rw (low-back start) at (e5 .before .is-zero .ensures) in
+    rw (high-back start) at (c .is-zero2 .ensures)
+    ∙ last-test _ _ _ _ _ _ (code-zero (e2 .before .before)) (eq-eqb _ 0 (e2 .if2 .left)) (eq-eqb _ 0 (e3 .if3 .left)) (eq-eqb _ 0 (e4 .if4 .left))
+    (sym low ∙ not-false _ (e5 .if5 .left))
 
 pub is-blank-spec : {M : Type 1} → statement M
 is-blank-spec =
-    tie.close (tie.spec code-requires returns returns-2 returns-3 returns-4 returns-5 returns-6)
+    tie.close
+    (tie.spec
+    code-requires
+    returns
+    returns-2
+    returns-3
+    returns-4
+    is-zero-requires
+    returns-5
+    is-zero-requires-2
+    returns-6)

@@ -6,7 +6,8 @@ use mir.Syntax.{w32}
 use mir.Val.{toZ, ofZ}
 use borrow.Author.Needs.{needs}
 use borrow.Author.Tests.{lt-ltb, le-ltb, not-true, not-false}
-use Rattle.step.specs.Step.{FIELDS, knownFunc, rowOf, fieldPlace, unusedZ, stepPlaces}
+use Rattle.step.specs.Step.{knownFunc, rowOf, fieldPlace, unusedZ, stepPlaces}
+use Rattle.bounds.specs.Bounds.{FIELDS}
 use Rattle.step.specs.declared.Row.{Row}
 use Rattle.step.proofs.places_good.Statement.{statement}
 use Rattle.step.proofs.places_good.Tie as tie
@@ -84,7 +85,8 @@ returns-5 c =
     let e2 = e3 .before .before in
     let e1 = e2 .before .before .before in
     let start = e1 .before .before in
-    let high = rw (high-back start) at (c .unused2 .ensures) ∙ ap (λ (w : Row). unusedZ (w .high) (start .args .t .high)) (e2 .before .before .row-of .ensures) in
+    let high =
+    rw (high-back start) at (c .unused2 .ensures) ∙ ap (λ (w : Row). unusedZ (w .high) (start .args .t .high)) (e2 .before .before .row-of .ensures) in
     let r = sym (r-told (e3 .before)) ∙ not-false _ (e3 .if3 .left) in
     simp (is-known e1, p-below e2, r, sym (low-told (e4 .before)) ∙ not-false _ (e4 .if4 .left)) high
 

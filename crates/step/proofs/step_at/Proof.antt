@@ -8,12 +8,11 @@ use lib.Seq.{getD-drop, drop-drop}
 use lib.IntN.{ℤ}
 use mir.Syntax.{w32}
 use mir.Facts.{toZ-ofZ}
-use borrow.Author.Needs.{sfits-of}
+use borrow.Author.Needs.{sfits-of, needs}
 use Rattle.number.specs.Number.{intOf}
 use Rattle.step.specs.Step.{funcOf, stepOf}
 use Rattle.step.specs.declared.Func.{Func}
 use Rattle.step.specs.declared.Step.{Step}
-use borrow.Author.Needs.{needs}
 use Rattle.step.proofs.step_at.Statement.{statement}
 use Rattle.step.proofs.step_at.Tie as tie
 

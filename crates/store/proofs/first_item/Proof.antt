@@ -9,7 +9,8 @@ use lib.Seq.{paste, paste-zero}
 use lib.IntN.{ℤ, pos}
 use mir.Facts.{toZ-ofZ}
 use denote.Ref.{now}
-use Rattle.store.specs.Store.{FIELDS, firstOf}
+use Rattle.store.specs.Store.{firstOf}
+use Rattle.bounds.specs.Bounds.{FIELDS}
 use Rattle.store.proofs.Copies.{front-more, front-all}
 use Rattle.store.proofs.first_item.Statement.{statement}
 use Rattle.store.proofs.first_item.Tie as tie

@@ -10,7 +10,8 @@ use lib.IntN.{ℤ}
 use mir.Facts.{toZ-ofZ}
 use denote.Ref.{now}
 use Rattle.store.specs.declared.Item.{Item}
-use Rattle.store.specs.Store.{FIELDS, PART, pushed}
+use Rattle.store.specs.Store.{PART, pushed}
+use Rattle.bounds.specs.Bounds.{FIELDS}
 use Rattle.store.proofs.QueueLaws.{fields-of-wide}
 use Rattle.store.proofs.Copies.{paste-more}
 use Rattle.store.proofs.push_part.Statement.{statement}

@@ -11,7 +11,8 @@ use lib.ListN.{length, getD, drop, drop-of-length-le}
 use lib.Seq.{drop-cons}
 use lib.IntN.{ℤ}
 use denote.Ref.{now}
-use Rattle.store.specs.Store.{QUEUES, part}
+use Rattle.store.specs.Store.{part}
+use Rattle.bounds.specs.Bounds.{QUEUES}
 use Rattle.store.specs.Quiet.{quietQueue, quietFrom}
 use Rattle.store.proofs.LentParts.{lent-part}
 use Rattle.store.proofs.quiet.Statement.{statement}

@@ -2,7 +2,7 @@
 use native.Mathlib.Omega.{arith}
 use borrow.Author.Needs.{needs}
 use borrow.Author.Tests.{lt-leb, le-leb}
-use Rattle.store.specs.Store.{ROOM}
+use Rattle.bounds.specs.Bounds.{ROOM}
 use Rattle.store.specs.Quiet.{quietQueue}
 use Rattle.store.proofs.quiet_queue.Statement.{statement}
 use Rattle.store.proofs.quiet_queue.Tie as tie

@@ -1,7 +1,7 @@
 -- `store::take` meets its contract: what `take_part` says of the queue's part, said of the store.
 use borrow.Author.Needs.{needs}
 use denote.Ref.{now}
-use Rattle.store.specs.Store.{takeAt, taken}
+use Rattle.store.specs.Store.{takeAt, withoutOldest}
 use Rattle.store.proofs.LentParts.{store-of-lent}
 use Rattle.store.proofs.take.Statement.{statement}
 use Rattle.store.proofs.take.Tie as tie
@@ -34,7 +34,7 @@ returns : tie.Need-returns
 unfolding takeAt
 returns c =
     let a = c .before .before .before .args in
-    store-of-lent (now (a .store)) (a .q) taken _ (c .before .take-part .ensures)
+    store-of-lent (now (a .store)) (a .q) withoutOldest _ (c .before .take-part .ensures)
 
 pub take-spec : {M : Type 1} → statement M
 take-spec =

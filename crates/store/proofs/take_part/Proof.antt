@@ -10,7 +10,8 @@ use lib.Seq.{paste, paste-zero, take-paste, take-all, getD-append-add, getD-drop
 use lib.IntN.{ℤ, pos}
 use mir.Facts.{toZ-ofZ}
 use denote.Ref.{now}
-use Rattle.store.specs.Store.{FIELDS, PART, taken}
+use Rattle.store.specs.Store.{PART, withoutOldest}
+use Rattle.bounds.specs.Bounds.{FIELDS}
 use Rattle.store.proofs.Copies.{front-more}
 use Rattle.store.proofs.take_part.Statement.{statement}
 use Rattle.store.proofs.take_part.Tie as tie
@@ -40,8 +41,8 @@ module _ (p : List ℤ) (len : length p ≡ PART) where
 
   -- all moved, and then the last item cleared
   moved-all : (l y : List ℤ) → l ≡ moved LAST → length l ≡ PART → y ≡ replicate (length (take (PART - LAST) (drop LAST l))) (pos 0) →
-      putMid LAST (PART - LAST) l y ≡ taken p
-  unfolding taken
+      putMid LAST (PART - LAST) l y ≡ withoutOldest p
+  unfolding withoutOldest
   moved-all l y e h f =
       let n : length (take (PART - LAST) (drop LAST l)) ≡ FIELDS = length-take-le (PART - LAST) (drop LAST l) (omega (arith, length-drop LAST l)) in
       let none : drop (PART - LAST) (drop LAST l) ≡ [] = drop-of-length-le (drop LAST l) {i = PART - LAST} (omega (arith, length-drop LAST l)) in

@@ -3,37 +3,25 @@ use mathlib.Core.Path.{_≡_, refl, sym, ap, _∙_}
 use mathlib.Core.Bool.{Bool, true, false, cond, _&&_}
 use mathlib.Core.Logic.{⊎-elim}
 use mathlib.Core.List.{List}
-use Prim.Native.Nat.{ℕ, zero, suc, _+_, _-_, _^_, _≤_, _<_}
+use Prim.Native.Nat.{ℕ, _+_, _-_, _≤_, _<_}
 use native.Mathlib.Numerals.{add-one}
 use native.Mathlib.Omega.{arith}
 use borrow.Author.Needs.{needs}
 use lib.ListN.{length, getD, drop-of-length-le}
 use lib.Seq.{drop-cons}
-use lib.IntN.{ℤ, pos, negsuc}
-use lib.Signed.{mag}
-use mir.Syntax.{w32}
-use mir.Val.{ofZ}
+use lib.IntN.{ℤ, pos}
 use denote.Ref.{now}
-use Rattle.store.specs.Quiet.{isZero, zerosFrom}
+use Rattle.number.specs.Number.{isZero}
+use Rattle.number.proofs.Zero.{test-of-zero, test-of-other}
+use Rattle.store.specs.Quiet.{zerosPast}
 use Rattle.store.proofs.zeros_from.Statement.{statement}
 use Rattle.store.proofs.zeros_from.Tie as tie
 
-zeros-step : (p : List ℤ) (i : ℕ) (b : Bool) → i < length p → isZero (getD p i (pos 0)) ≡ b → zerosFrom p i ≡ (b && zerosFrom p (i + 1))
+zeros-step : (p : List ℤ) (i : ℕ) (b : Bool) → i < length p → isZero (getD p i (pos 0)) ≡ b → zerosPast p i ≡ (b && zerosPast p (i + 1))
 zeros-step p i b h e = rw (add-one, drop-cons p i (pos 0) h, e)
 
-zeros-end : (p : List ℤ) (i : ℕ) → length p ≤ i → zerosFrom p i ≡ true
+zeros-end : (p : List ℤ) (i : ℕ) → length p ≤ i → zerosPast p i ≡ true
 zeros-end p i h = rw (drop-of-length-le p h)
-
--- the code tests a number's bits against 0
-test-of-zero : (z : ℤ) → mag z < 2 ^ 31 → ofZ w32 z ≡ 0 → isZero z ≡ true
-test-of-zero (pos zero) h e = refl
-test-of-zero (pos (suc n)) h e = absurd (omega arith)
-test-of-zero (negsuc n) h e = absurd (omega arith)
-
-test-of-other : (z : ℤ) → (ofZ w32 z ≡ 0 → ⊥) → isZero z ≡ false
-test-of-other (pos zero) f = absurd (f refl)
-test-of-other (pos (suc n)) f = refl
-test-of-other (negsuc n) f = refl
 
 and-false : (b : Bool) → (b && false) ≡ false
 and-false true = refl
@@ -44,14 +32,14 @@ and-true true = refl
 and-true false = refl
 
 -- one number more: what was seen so far, and that number's test
-zeros-next : (p : List ℤ) (from i : ℕ) (clean next b : Bool) → i < length p → zerosFrom p from ≡ (clean && zerosFrom p i) →
-    isZero (getD p i (pos 0)) ≡ b → next ≡ cond b clean false → zerosFrom p from ≡ (next && zerosFrom p (i + 1))
-zeros-next p from i clean next true h e t n = e ∙ ap (λ (x : Bool). clean && x) (zeros-step p i true h t) ∙ ap (λ (x : Bool). x && zerosFrom p (i + 1)) (sym n)
+zeros-next : (p : List ℤ) (from i : ℕ) (clean next b : Bool) → i < length p → zerosPast p from ≡ (clean && zerosPast p i) →
+    isZero (getD p i (pos 0)) ≡ b → next ≡ cond b clean false → zerosPast p from ≡ (next && zerosPast p (i + 1))
+zeros-next p from i clean next true h e t n = e ∙ ap (λ (x : Bool). clean && x) (zeros-step p i true h t) ∙ ap (λ (x : Bool). x && zerosPast p (i + 1)) (sym n)
 zeros-next p from i clean next false h e t n =
-    e ∙ ap (λ (x : Bool). clean && x) (zeros-step p i false h t) ∙ and-false clean ∙ ap (λ (x : Bool). x && zerosFrom p (i + 1)) (sym n)
+    e ∙ ap (λ (x : Bool). clean && x) (zeros-step p i false h t) ∙ and-false clean ∙ ap (λ (x : Bool). x && zerosPast p (i + 1)) (sym n)
 
 abbrev Inv-loop : tie.InvT-loop
-Inv-loop part from clean₀ i₀ clean i = (i ≤ length part) × (zerosFrom part from ≡ (clean && zerosFrom part i))
+Inv-loop part from clean₀ i₀ clean i = (i ≤ length part) × (zerosPast part from ≡ (clean && zerosPast part i))
 
 abbrev μ-loop : tie.MeasureT-loop
 μ-loop part from clean₀ i₀ clean i = length part - i

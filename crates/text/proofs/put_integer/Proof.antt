@@ -8,8 +8,6 @@ use Rattle.text.proofs.Putting.{puts-length, room-small, puts-small, ro
 use borrow.Author.Needs.{needs}
 use Rattle.text.proofs.put_integer.Statement.{statement}
 use Rattle.text.proofs.put_integer.Tie as tie
-use Rattle.number.proofs.bits.Reads as bits-reads
-use Rattle.text.proofs.put_natural.Reads as put-natural-reads
 
 bits-requires : tie.Need-bits-requires
 bits-requires c κs = search needs

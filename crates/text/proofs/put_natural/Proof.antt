@@ -11,7 +11,6 @@ use Rattle.text.proofs.Digits.{length-some}
 use Rattle.text.proofs.Putting.{Filling, filling-starts, filling-goes-on, filling-place, filling-ends}
 use Rattle.text.proofs.put_natural.Statement.{statement}
 use Rattle.text.proofs.put_natural.Tie as tie
-use Rattle.text.proofs.width.Reads as width-reads
 
 abbrev Inv-loop : tie.InvT-loop
 Inv-loop s₀ at n w m₀ i₀ s m i = Filling s₀ at n s m i

@@ -9,111 +9,71 @@ use denote.Ref.{now}
 use Rattle.sheet.specs.Sheet.{viewSheet}
 use Rattle.machine.specs.Numbers.{decode}
 use Rattle.machine.proofs.Good.{tested-of-good}
-use Rattle.trial.proofs.RecordLaws.{feed-room}
-use Rattle.trial.proofs.Feeding.{Feeding, feeding-starts, feeding-few, feeding-stops, feeding-goes-on, feeding-ends}
+use Rattle.trial.proofs.Feeding.{Feeding, feeding-starts, feeding-room, feeding-goes-on, feeding-ends}
 use Rattle.trial.proofs.feed_all.Statement.{statement}
 use Rattle.trial.proofs.feed_all.Tie as tie
 
 abbrev Inv-loop : tie.InvT-loop
-Inv-loop s from t store₀ st₀ at₀ spot₀ store st at spot = Feeding t s from (decode st₀ store₀) st store at spot
+Inv-loop s from t store₀ st₀ at₀ store st at = Feeding t s from (decode st₀ store₀) st store at
 
 abbrev μ-loop : tie.MeasureT-loop
-μ-loop s from t store₀ st₀ at₀ spot₀ store st at spot = length s - at
-
-cast-spot : tie.Need-cast-spot Inv-loop μ-loop
-cast-spot c = search needs
-
-add-spot : tie.Need-add-spot Inv-loop μ-loop
-add-spot c = search needs
+μ-loop s from t store₀ st₀ at₀ store st at = length s - at
 
 loop-holds : tie.Need-loop-holds Inv-loop μ-loop
 loop-holds c =
-    let d = c .before .before in
-    feeding-starts (d .args .t) (now (d .args .s)) (d .args .from) (d .args .state) (now (d .args .store)) (d .pre .0) (search needs)
-    (search needs)
-    (d .pre .1) _ refl
+    let d = c .before in
+    feeding-starts (d .args .t) (now (d .args .s)) (d .args .from) (d .args .state) (now (d .args .store)) (d .pre) (search needs) (search needs)
 
 is-feed-requires : tie.Need-is-feed-requires Inv-loop μ-loop
-is-feed-requires c κs = c .loop .inv .inside
+is-feed-requires c κs = c .loop .inv .passing .inside
 
-feed-one-requires : tie.Need-feed-one-requires Inv-loop μ-loop
-feed-one-requires c κs =
+item-at-requires : tie.Need-item-at-requires Inv-loop μ-loop
+item-at-requires c κs = feeding-room (c .before .before .loop .inv) (sym (c .before .is-feed .ensures) ∙ c .if1 .taken)
+
+add-q : tie.Need-add-q Inv-loop μ-loop
+add-q c =
     let at-is-feed = c .before .before in
-    let at-loop = at-is-feed .before in
-    (at-loop .loop .inv .stands, at-loop .loop .inv .inside, sym (at-is-feed .is-feed .ensures) ∙ c .before .if1 .taken)
+    omega (arith, feeding-room (at-is-feed .before .loop .inv) (sym (at-is-feed .is-feed .ensures) ∙ c .before .if1 .taken))
 
-number-of-requires : tie.Need-number-of-requires Inv-loop μ-loop
-number-of-requires c κs = search needs
-
-same-length : tie.Need-same-length Inv-loop μ-loop
-same-length c =
-    let at-number-of = c .before .before in
-    let at-feed-one = at-number-of .before .before in
-    let at-if1 = at-feed-one .before .before in
+shared-slice-read-q : tie.Need-shared-slice-read-q Inv-loop μ-loop
+shared-slice-read-q c =
+    let at-if1 = c .before .before in
     let at-is-feed = at-if1 .before in
-    let at-loop = at-is-feed .before in
-    let d = at-loop .before .before .before in
-    let k = feeding-stops (at-loop .loop .inv) (sym (at-is-feed .is-feed .ensures) ∙ at-if1 .if1 .taken)
-    (at-number-of .number-of .result) (at-feed-one .feed-one .ensures) (at-number-of .number-of .ensures) (c .if2 .taken) in
-    tested-of-good (viewSheet (d .args .t)) _ _ (k .stands .numbers) .size
-    ∙ sym (tested-of-good (viewSheet (d .args .t)) (d .args .state) (now (d .args .store)) (d .pre .0 .numbers) .size)
+    omega (arith, feeding-room (at-is-feed .before .loop .inv) (sym (at-is-feed .is-feed .ensures) ∙ at-if1 .if1 .taken))
 
-returns : tie.Need-returns Inv-loop μ-loop
-returns c =
-    let at-number-of = c .before .before in
-    let at-feed-one = at-number-of .before .before in
-    let at-if1 = at-feed-one .before .before in
-    let at-is-feed = at-if1 .before in
-    let at-loop = at-is-feed .before in
-    feeding-stops (at-loop .loop .inv) (sym (at-is-feed .is-feed .ensures) ∙ at-if1 .if1 .taken)
-    (at-number-of .number-of .result) (at-feed-one .feed-one .ensures) (at-number-of .number-of .ensures) (c .if2 .taken)
+feed-known-requires : tie.Need-feed-known-requires Inv-loop μ-loop
+feed-known-requires c κs = c .before .before .before .before .before .loop .inv .stands
 
 add-at : tie.Need-add-at Inv-loop μ-loop
-add-at c = search needs
-
-add-at-2 : tie.Need-add-at-2 Inv-loop μ-loop
-add-at-2 c =
-    let at-number-of = c .before .before in
-    let at-feed-one = at-number-of .before .before in
-    let at-if1 = at-feed-one .before .before in
+add-at c =
+    let at-if1 = c .before .before .before .before .before .before in
     let at-is-feed = at-if1 .before in
-    let at-loop = at-is-feed .before in
-    let k = feeding-goes-on (at-loop .loop .inv) (sym (at-is-feed .is-feed .ensures) ∙ at-if1 .if1 .taken)
-    (at-number-of .number-of .result) (at-feed-one .feed-one .ensures) (at-number-of .number-of .ensures) (c .if2 .left) in
-    omega (arith, k .inside)
-
-add-spot-2 : tie.Need-add-spot-2 Inv-loop μ-loop
-add-spot-2 c =
-    let at-loop = c .before .before .before .before .before .before .before .before in
-    omega (arith, feeding-few (at-loop .loop .inv), at-loop .loop .inv .inside)
+    omega (arith, feeding-room (at-is-feed .before .loop .inv) (sym (at-is-feed .is-feed .ensures) ∙ at-if1 .if1 .taken))
 
 loop-less : tie.Need-loop-less Inv-loop μ-loop
 loop-less c =
     let at-if1 = c .before .before .before .before .before .before in
     let at-is-feed = at-if1 .before in
-    let at-loop = at-is-feed .before in
-    let d = at-loop .before .before .before in
-    omega (arith, feed-room (now (d .args .s)) (at-loop .loop .at) (sym (at-is-feed .is-feed .ensures) ∙ at-if1 .if1 .taken) .0)
+    omega (arith, feeding-room (at-is-feed .before .loop .inv) (sym (at-is-feed .is-feed .ensures) ∙ at-if1 .if1 .taken))
 
 loop-again : tie.Need-loop-again Inv-loop μ-loop
 loop-again c =
-    let at-number-of = c .before .before in
-    let at-feed-one = at-number-of .before .before in
-    let at-if1 = at-feed-one .before .before in
+    let at-feed-known = c .before .before in
+    let at-item-at = at-feed-known .before .before .before in
+    let at-if1 = at-item-at .before in
     let at-is-feed = at-if1 .before in
-    let at-loop = at-is-feed .before in
-    feeding-goes-on (at-loop .loop .inv) (sym (at-is-feed .is-feed .ensures) ∙ at-if1 .if1 .taken)
-    (at-number-of .number-of .result) (at-feed-one .feed-one .ensures) (at-number-of .number-of .ensures) (c .if2 .left)
+    feeding-goes-on (at-is-feed .before .loop .inv) (sym (at-is-feed .is-feed .ensures) ∙ at-if1 .if1 .taken) _ _ refl
+    (at-item-at .item-at .ensures) (at-feed-known .feed-known .ensures)
 
-same-length-2 : tie.Need-same-length-2 Inv-loop μ-loop
-same-length-2 c =
+same-length : tie.Need-same-length Inv-loop μ-loop
+same-length c =
     let at-loop = c .before .before in
-    let d = at-loop .before .before .before in
+    let d = at-loop .before .before in
     tested-of-good (viewSheet (d .args .t)) (at-loop .loop .st) (at-loop .loop .store) (at-loop .loop .inv .stands .numbers) .size
-    ∙ sym (tested-of-good (viewSheet (d .args .t)) (d .args .state) (now (d .args .store)) (d .pre .0 .numbers) .size)
+    ∙ sym (tested-of-good (viewSheet (d .args .t)) (d .args .state) (now (d .args .store)) (d .pre .stands .numbers) .size)
 
-returns-2 : tie.Need-returns-2 Inv-loop μ-loop
-returns-2 c = feeding-ends (c .before .before .loop .inv) (sym (c .before .is-feed .ensures) ∙ c .if1 .left)
+returns : tie.Need-returns Inv-loop μ-loop
+returns c = feeding-ends (c .before .before .loop .inv) (sym (c .before .is-feed .ensures) ∙ c .if1 .left)
 
 pub feed-all-spec : {M : Type 1} → statement M
 feed-all-spec =
@@ -121,18 +81,14 @@ feed-all-spec =
     (tie.spec
     Inv-loop
     μ-loop
-    cast-spot
-    add-spot
     loop-holds
     is-feed-requires
-    feed-one-requires
-    number-of-requires
-    same-length
-    returns
+    item-at-requires
+    add-q
+    shared-slice-read-q
+    feed-known-requires
     add-at
-    add-at-2
-    add-spot-2
     loop-less
     loop-again
-    same-length-2
-    returns-2)
+    same-length
+    returns)

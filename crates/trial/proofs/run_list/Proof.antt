@@ -1,11 +1,10 @@
--- `trial::run_list` meets its contract: the run and the ready set from numbers that stand, in the words of a trial.
+-- `trial::run_list` meets its contract: the run and the ready set from numbers that stand, as a trial ends.
 -- Assumes nothing.
 use mathlib.Core.Path.{_≡_}
 use lib.ListN.{length}
 use denote.Ref.{now}
-use Rattle.format.specs.Head.{VARIABLES}
-use Rattle.store.specs.Store.{QUEUES}
-use Rattle.trial.proofs.Running.{stands-then, run-tells}
+use Rattle.bounds.specs.Bounds.{VARIABLES, QUEUES}
+use Rattle.trial.proofs.Running.{stands-then, run-ended}
 use borrow.Author.Needs.{needs}
 use Rattle.trial.proofs.run_list.Statement.{statement}
 use Rattle.trial.proofs.run_list.Tie as tie
@@ -24,7 +23,7 @@ ready-known-requires : tie.Need-ready-known-requires
 ready-known-requires c κs =
     let at-run = c .before .before .before in
     let d = at-run .before .before .before in
-    stands-then (d .args .t) (d .args .state) (now (d .args .store)) (now (d .args .list)) (d .pre) (many d) (wide d)
+    stands-then (d .args .t) (d .args .state) (now (d .args .store)) (now (d .args .list)) (d .pre .0) (many d) (wide d)
     (at-run .run-known .ensures)
 
 same-length : tie.Need-same-length
@@ -34,8 +33,8 @@ returns : tie.Need-returns
 returns c =
     let at-run = c .before .before .before .before in
     let d = at-run .before .before .before in
-    run-tells (d .args .t) (d .args .state) (now (d .args .store)) (now (d .args .list)) (d .pre) (many d) (wide d)
-    (at-run .run-known .ensures) (c .ready-known .result) (c .ready-known .ensures)
+    run-ended (d .args .t) (d .args .state) (now (d .args .store)) (now (d .args .list)) (d .pre .0) (many d) (wide d)
+    (at-run .run-known .ensures) (d .pre .1) (c .ready-known .result) (c .ready-known .ensures)
 
 pub run-list-spec : {M : Type 1} → statement M
 run-list-spec = tie.close (tie.spec run-known-requires ready-known-requires same-length returns)

@@ -4,8 +4,8 @@ use mathlib.Core.Path.{refl}
 use native.Mathlib.Omega.{arith}
 use borrow.Author.Tests.{not-true, not-false}
 use denote.Ref.{now}
-use Rattle.codec.proofs.ReadEnds.{reads-has-record}
-use Rattle.trial.proofs.Ending.{refused-tells, same-trial}
+use Rattle.codec_read.proofs.ReadEnds.{reads-has-record}
+use Rattle.trial.proofs.Ending.{refused-tries, same-trial}
 use Rattle.trial.proofs.Front.{input-long, front-refused, front-gap, front-whole}
 use borrow.Author.Needs.{needs}
 use Rattle.trial.proofs.try_input.Statement.{statement}
@@ -17,8 +17,7 @@ refused-requires c κs = search needs
 returns : tie.Need-returns
 returns c =
     let d = c .before .before .before in
-    refused-tells _ (c .refused .result) _ 18 0 (input-long (now (d .args .s)) (c .before .if1 .taken)) (λ z. omega arith)
-    (c .refused .ensures .0, c .refused .ensures .1)
+    refused-tries _ 18 0 (input-long (now (d .args .s)) (c .before .if1 .taken)) (c .refused .result) _ (c .refused .ensures)
 
 read-front-requires : tie.Need-read-front-requires
 read-front-requires c κs = search needs
@@ -43,8 +42,7 @@ returns-2 c =
     let d = at-read-front .before .before .before in
     let f = at-read-front .read-front in
     front-gap (now (d .args .s)) (omega arith) (f .result) (f .ensures) _ (c .refused2 .result) _ (at-enum-told .enum-told .given .1)
-    (not-true _ (at-if2 .if2 .taken)) refl
-    (c .refused2 .ensures .0, c .refused2 .ensures .1)
+    (not-true _ (at-if2 .if2 .taken)) refl (c .refused2 .ensures)
 
 try-sheet-requires : tie.Need-try-sheet-requires
 try-sheet-requires c κs =
@@ -56,7 +54,7 @@ try-sheet-requires c κs =
     let w = front-whole (now (d .args .s)) (omega arith) (f .result) (f .ensures)
     (λ j. at-shared-slice-known .shared-slice-known .given j .fits) (at-enum-told .enum-told .given .1)
     (not-false _ (c .before .if2 .left)) in
-    (w .sheet, w .inside, omega arith, d .pre)
+    (w .front, d .pre)
 
 enum-known-a : tie.Need-enum-known-a
 enum-known-a c = search needs
@@ -94,7 +92,7 @@ returns-4 c =
     let f = c .before .before .before .before .before .read-front in
     let g = c .before .before .a .given in
     front-refused (now (d .args .s)) (omega arith) (f .result) (f .ensures) (g .0 .0) (g .0 .1 .0) (c .refused3 .result) _ (g .1)
-    (c .refused3 .ensures .0, c .refused3 .ensures .1)
+    (c .refused3 .ensures)
 
 returns-5 : tie.Need-returns-5
 returns-5 c =

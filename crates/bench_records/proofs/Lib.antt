@@ -1,0 +1,4 @@
+pub mod RecordLaws
+pub mod Listing
+pub mod Feeding
+pub mod Looking

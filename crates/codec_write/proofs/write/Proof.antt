@@ -1,0 +1,55 @@
+-- `codec_write::write` meets its contract: the check decides, and a sheet that it refuses leaves the buffer as it was.
+-- Assumes nothing.
+use mathlib.Core.Path.{refl, ap, sym, _∙_}
+use Rattle.sheet.specs.Answer.{paper}
+use Rattle.codec_write.proofs.Writing.{writes-refused}
+use borrow.Author.Needs.{needs}
+use Rattle.codec_write.proofs.write.Statement.{statement}
+use Rattle.codec_write.proofs.write.Tie as tie
+
+check-requires : tie.Need-check-requires
+check-requires c κs = search needs
+
+enum-told : tie.Need-enum-told
+enum-told c = search needs
+
+write-good-requires : tie.Need-write-good-requires
+write-good-requires c κs =
+    let k = c .before .before .before .check in
+    sym (k .ensures) ∙ ap paper (c .before .enum-told .given .1)
+
+enum-known-a : tie.Need-enum-known-a
+enum-known-a c = search needs
+
+enum-known-a-2 : tie.Need-enum-known-a-2
+enum-known-a-2 c = search needs
+
+same-length : tie.Need-same-length
+same-length c = search needs
+
+returns : tie.Need-returns
+returns c = search needs
+
+returns-2 : tie.Need-returns-2
+returns-2 c =
+    let k = c .before .before .before .check in
+    writes-refused _ _ (k .result) _ (c .before .a .given .1) (k .ensures) refl
+
+returns-3 : tie.Need-returns-3
+returns-3 c =
+    let k = c .before .before .before .check in
+    writes-refused _ _ (k .result) _ (c .before .a2 .given .1) (k .ensures) refl
+
+pub write-spec : {M : Type 1} → statement M
+write-spec =
+    tie.close
+    (tie.spec
+    check-requires
+    enum-told
+    write-good-requires
+    enum-known-a
+    enum-known-a-2
+    same-length
+    returns
+    returns-2
+    returns-3)

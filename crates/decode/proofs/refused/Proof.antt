@@ -1,0 +1,10 @@
+-- `decode::refused` meets its contract: beside the number stand 0 and the empty operator.
+use mathlib.Core.Path.{refl}
+use Rattle.decode.proofs.refused.Statement.{statement}
+use Rattle.decode.proofs.refused.Tie as tie
+
+returns : tie.Need-returns
+returns c = refl
+
+pub refused-spec : {M : Type 1} → statement M
+refused-spec = tie.close (tie.spec returns)

@@ -1,0 +1,87 @@
+// The calls that read and write a sheet, 2 and 3, made and printed as the other calls on a sheet.
+use printer::put_answer;
+use printer::put_bad;
+use printer::put_byte;
+use printer::put_hex;
+use printer::put_text;
+use sheet::Answer;
+use sheet::Sheet;
+ghost use Prim.Native.Nat.{_<_};
+ghost use lib.ListN.{length};
+
+// How many bytes call 3 lends at the most, and what each of them is before the call.
+const LENT: usize = 4096;
+
+const BEFORE: u8 = 170;
+
+// A sheet, and how many bytes of text wait.
+pub struct Sheeted {
+    pub sheet: Sheet,
+    pub used: usize,
+}
+
+// A call that may leave another sheet: its answer, and the new sheet where it was done, else the old one.
+pub fn changed(
+    a: Answer,
+    new: Sheet,
+    old: Sheet,
+    word: &[u8],
+    out: &mut [u8],
+    used: usize,
+) -> Sheeted
+    requires { ⌜ used < length (now out) ⌝ }
+    ensures { λ r. ⌜ r .used < length (now (out .exit)) ⌝ }
+{
+    let used = put_answer(&mut *out, used, a, word);
+    let sheet = replay_held::kept(a, new, old);
+    Sheeted { sheet, used }
+}
+
+// 2
+pub fn call_read(body: &[u8], t: Sheet, out: &mut [u8], used: usize) -> Sheeted
+    requires { ⌜ used < length (now out) ⌝ }
+    ensures { λ r. ⌜ r .used < length (now (out .exit)) ⌝ }
+{
+    let r = codec_read::read(body);
+    let a = r.answer;
+    let new = r.sheet;
+    changed(a, new, t, b"read", &mut *out, used)
+}
+
+// 3
+pub fn call_write(body: &[u8], t: Sheet, out: &mut [u8], used: usize) -> usize
+    requires { ⌜ used < length (now out) ⌝ }
+    ensures { λ r. ⌜ r < length (now (out .exit)) ⌝ }
+{
+    if body.len() != 2 {
+        return put_bad(&mut *out, used);
+    }
+    let n = number::short_at(body, 0);
+    let mut lent = [BEFORE; LENT];
+    if LENT < n {
+        return put_bad(&mut *out, used);
+    }
+    write_lent(t, &mut lent[..n], &mut *out, used)
+}
+
+// Writes the sheet to a lent buffer, and prints the buffer as it is then.
+fn write_lent(t: Sheet, lent: &mut [u8], out: &mut [u8], used: usize) -> usize
+    requires { ⌜ used < length (now out) ⌝ }
+    ensures { λ r. ⌜ r < length (now (out .exit)) ⌝ }
+{
+    let w = codec_write::write(t, &mut *lent);
+    let a = w.answer;
+    put_written(&mut *out, used, a, &*lent)
+}
+
+fn put_written(out: &mut [u8], used: usize, a: Answer, s: &[u8]) -> usize
+    requires { ⌜ used < length (now out) ⌝ }
+    ensures { λ r. ⌜ r < length (now (out .exit)) ⌝ }
+{
+    if !replay_held::is_done(a) {
+        return put_answer(&mut *out, used, a, b"");
+    }
+    let at = put_text(&mut *out, used, b"bytes ");
+    let at = put_hex(&mut *out, at, s);
+    put_byte(&mut *out, at, b'\n')
+}

@@ -1,0 +1,51 @@
+// The whole of a stream: each call is made and answered, up to its end.
+use stream::Found;
+use stream::Window;
+ghost use Prim.Native.Nat.{_<_};
+ghost use lib.ListN.{length};
+
+fn end_cut(out: &mut [u8], used: usize)
+    requires { ⌜ used < length (now out) ⌝ }
+{
+    let at = printer::put_line(&mut *out, used, b"cut");
+    printer::flush(&*out, at);
+}
+
+// The whole stream. Nothing says that it ends, so the turns are counted down from a number that no run uses up.
+pub fn serve(input: &mut [u8], store: &mut [i32], text: &mut [u8], out: &mut [u8])
+    requires { ⌜ 0 < length (now out) ⌝ }
+{
+    let mut held = replay_held::first();
+    let mut w = Window { at: 0, end: 0 };
+    let mut turns = u64::MAX;
+    while 0 < turns {
+        turns -= 1;
+        let n = stream::next_call(&mut *input, w);
+        let behind = n.window;
+        w = behind;
+        let at = n.at;
+        let end = n.end;
+        let found = n.found;
+        match found {
+            Found::Call => {
+                let next = replay_calls::answer(
+                    n.call,
+                    &input[at..end],
+                    held,
+                    &mut *store,
+                    &mut *text,
+                    &mut *out,
+                );
+                held = next;
+            }
+            Found::Cut => {
+                end_cut(&mut *out, held.used);
+                return;
+            }
+            Found::End => {
+                printer::flush(&*out, held.used);
+                return;
+            }
+        }
+    }
+}

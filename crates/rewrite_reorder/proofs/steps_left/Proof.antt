@@ -1,0 +1,75 @@
+-- `rewrite_reorder::steps_left` meets its contract: the loop keeps that every step passed leaves the fields that s writes.
+use mathlib.Core.Path.{_≡_, refl, _∙_, sym}
+use mathlib.Core.Bool.{true}
+use Prim.Native.Nat.{ℕ, _≤_, _-_}
+use native.Mathlib.Omega.{arith}
+use lib.ListN.{getD}
+use borrow.Author.Needs.{needs}
+use borrow.Author.Tests.{not-true, not-false}
+use Rattle.lists.specs.Lists.{all}
+use Rattle.lists.proofs.Tests.{all-more, all-stop}
+use Rattle.step.specs.Step.{noStep}
+use Rattle.operator.specs.Memory.{stepsIn}
+use Rattle.judge.proofs.Loops.{all-end}
+use Rattle.rewrite_reorder.specs.Working.{stepLeaves}
+use Rattle.rewrite_reorder.proofs.steps_left.Statement.{statement}
+use Rattle.rewrite_reorder.proofs.steps_left.Tie as tie
+
+abbrev Inv-loop : tie.InvT-loop
+Inv-loop s o n k₀ k = (k ≤ o .count) × (all (stepLeaves s) (stepsIn k (o .steps)) ≡ true)
+
+abbrev μ-loop : tie.MeasureT-loop
+μ-loop s o n k₀ k = o .count - k
+
+cast-n : tie.Need-cast-n Inv-loop μ-loop
+cast-n c = search needs
+
+loop-holds : tie.Need-loop-holds Inv-loop μ-loop
+loop-holds c = (omega arith, refl)
+
+mul-t : tie.Need-mul-t Inv-loop μ-loop
+mul-t c = omega arith
+
+element-copy-out-t : tie.Need-element-copy-out-t Inv-loop μ-loop
+element-copy-out-t c = omega arith
+
+step-left-requires : tie.Need-step-left-requires Inv-loop μ-loop
+step-left-requires c κs = search needs
+
+returns : tie.Need-returns Inv-loop μ-loop
+returns c = sym (all-stop _ _ _ _ (c .before .before .before .loop-test .taken) (sym (c .before .step-left .ensures) ∙ not-true _ (c .if1 .taken)))
+
+add-k : tie.Need-add-k Inv-loop μ-loop
+add-k c = omega arith
+
+loop-less : tie.Need-loop-less Inv-loop μ-loop
+loop-less c = omega arith
+
+loop-again : tie.Need-loop-again Inv-loop μ-loop
+loop-again c =
+    let b = c .before .before .before .before in
+    let a = b .before .args in (
+      omega arith,
+      all-more (stepLeaves (a .s)) (b .loop .k) (λ (j : ℕ). getD (a .t2 .steps) j noStep) (b .loop .inv .1)
+          (sym (c .before .step-left .ensures) ∙ not-false _ (c .if1 .left)),
+    )
+
+returns-2 : tie.Need-returns-2 Inv-loop μ-loop
+returns-2 c = all-end _ _ _ _ (c .before .loop .inv .0) (c .loop-test .left) (c .before .loop .inv .1)
+
+pub steps-left-spec : {M : Type 1} → statement M
+steps-left-spec =
+    tie.close
+    (tie.spec
+    Inv-loop
+    μ-loop
+    cast-n
+    loop-holds
+    mul-t
+    element-copy-out-t
+    step-left-requires
+    returns
+    add-k
+    loop-less
+    loop-again
+    returns-2)

@@ -1,0 +1,3 @@
+pub mod Rewrite
+pub mod Answers
+pub mod Working
