@@ -9,10 +9,10 @@ use lib.Dec.{eqb, ltb}
 use lib.ListN.{length, drop, length-drop}
 use lib.Seq.{drop-drop}
 use borrow.Author.Tests.{eqb-true}
-use Rattle.number.specs.Number.{shortOf}
-use Rattle.operator.specs.Op.{Abstract}
-use Rattle.bounds.specs.Bounds.{FIELDS}
-use Rattle.machine.specs.Machine.{Machine, Outcome, refuse, done, full, putAll, feedM}
+use Rattle.base_number.specs.Number.{shortOf}
+use Rattle.sheet_operator.specs.Op.{Abstract}
+use Rattle.base_bounds.specs.Bounds.{FIELDS}
+use Rattle.run_machine.specs.Machine.{Machine, Outcome, refuse, done, full, putAll, feedM}
 use Rattle.bench_records.specs.Records.{queueAt, itemAt, feedBody, feedBytes, Feeds, unfed, fed, isFeed, feedNext, feedsOn, feedsFrom}
 use Rattle.bench_records.proofs.RecordLaws.{feed-room}
 

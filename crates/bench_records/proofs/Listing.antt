@@ -8,7 +8,7 @@ use native.Mathlib.Omega.{arith}
 use lib.ListN.{length, getD, take, drop, set, length-set, length-drop}
 use lib.Seq.{drop-drop, getD-drop, take-suc-set}
 use borrow.Author.Tests.{eq-eqb, ne-eqb}
-use Rattle.format.specs.Record.{HEADER}
+use Rattle.sheet_format.specs.Record.{HEADER}
 use Rattle.bench_records.specs.Records.{queueAt, firingBytes, Firings, unfired, firings, before, firingNumber, firingsFrom}
 use Rattle.bench_records.specs.Looks.{Listable, Lists}
 use Rattle.bench_records.proofs.RecordLaws.{firing-room}

@@ -8,19 +8,19 @@ use native.Mathlib.Omega.{arith}
 use lib.Dec.{eqb, leb, ltb}
 use lib.ListN.{length, getD, set, drop, length-append}
 use borrow.Author.Tests.{eq-eqb, ne-eqb, lt-ltb, le-ltb, eqb-true, ltb-true, leb-false}
-use Rattle.number.specs.Number.{shortOf}
-use Rattle.lists.proofs.Places.{map-set}
-use Rattle.operator.specs.Op.{Abstract}
-use Rattle.bounds.specs.Bounds.{OPERATORS, QUEUES, ROOM}
+use Rattle.base_number.specs.Number.{shortOf}
+use Rattle.base_lists.proofs.Places.{map-set}
+use Rattle.sheet_operator.specs.Op.{Abstract}
+use Rattle.base_bounds.specs.Bounds.{OPERATORS, QUEUES, ROOM}
 use Rattle.sheet.specs.declared.Sheet.{Sheet}
 use Rattle.sheet.specs.Answer.{accepted}
 use Rattle.sheet.specs.Sheet.{viewSheet}
 use Rattle.sheet.specs.Check.{checkOf}
 use Rattle.sheet.proofs.Accepted.{ranges-of-accepted}
-use Rattle.machine.specs.Machine.{Machine, Outcome, refuse, done, putAll, feedM}
-use Rattle.machine.proofs.Firing.{feed-puts-one}
-use Rattle.machine.proofs.Good.{count-at}
-use Rattle.machine.specs.Working.{refusalOf}
+use Rattle.run_machine.specs.Machine.{Machine, Outcome, refuse, done, putAll, feedM}
+use Rattle.run_machine.proofs.Firing.{feed-puts-one}
+use Rattle.run_machine.proofs.Good.{count-at}
+use Rattle.run_machine.specs.Working.{refusalOf}
 use Rattle.bench_records.specs.Records.{queueAt, itemAt, feedBody, feedBytes, start, fed, isFeed, feedNext, machineIn}
 use Rattle.bench_records.specs.Looks.{feedNumber, feedsAfter, Looks}
 use Rattle.bench_records.proofs.Feeding.{some-number, whole-body, Passing, passing-starts, passing-few, passing-ends, passing-stops, passing-goes-on}

@@ -10,15 +10,15 @@ use lib.ListN.{length, drop, set}
 use lib.IntN.{ℤ, pos}
 use lib.Seq.{drop-drop}
 use borrow.Author.Tests.{eq-eqb, ne-eqb, eqb-true, not-true}
-use Rattle.number.specs.Number.{shortOf, intOf}
-use Rattle.lists.specs.Lists.{build, pad}
-use Rattle.lists.proofs.Build.{build-length, build-ext}
-use Rattle.lists.proofs.Pad.{pad-full, pad-build-more}
-use Rattle.lists.proofs.Tests.{both}
-use Rattle.format.specs.Record.{HEADER, cut}
-use Rattle.decode.proofs.Cut.{whole-at}
-use Rattle.bounds.specs.Bounds.{FIELDS}
-use Rattle.store.specs.declared.Item.{Item}
+use Rattle.base_number.specs.Number.{shortOf, intOf}
+use Rattle.base_lists.specs.Lists.{build, pad}
+use Rattle.base_lists.proofs.Build.{build-length, build-ext}
+use Rattle.base_lists.proofs.Pad.{pad-full, pad-build-more}
+use Rattle.base_lists.proofs.Tests.{both}
+use Rattle.sheet_format.specs.Record.{HEADER, cut}
+use Rattle.sheet_decode.proofs.Cut.{whole-at}
+use Rattle.base_bounds.specs.Bounds.{FIELDS}
+use Rattle.run_store.specs.declared.Item.{Item}
 use Rattle.bench_records.specs.Records.{kindAt, itemAt, isFeed, firingNumber, feedKind, firingKind, firingBody, firingBytes}
 
 module _ (s : List ℕ) (at : ℕ) where

@@ -5,11 +5,11 @@ use mathlib.Core.List.{List}
 use Prim.Native.Nat.{ℕ, _+_, _*_, _^_, _≤_, _<_}
 use lib.Dec.{eqb, leb, ltb}
 use lib.ListN.{length, getD, take, drop}
-use Rattle.number.specs.Number.{shortOf}
-use Rattle.bounds.specs.Bounds.{OPERATORS, ROOM}
+use Rattle.base_number.specs.Number.{shortOf}
+use Rattle.base_bounds.specs.Bounds.{OPERATORS, ROOM}
 use Rattle.sheet.specs.declared.Sheet.{Sheet}
 use Rattle.sheet.specs.Sheet.{viewSheet}
-use Rattle.machine.specs.Machine.{Machine}
+use Rattle.run_machine.specs.Machine.{Machine}
 use Rattle.bench_records.specs.declared.Listed.{Listed}
 use Rattle.bench_records.specs.declared.Looked.{Looked}
 use Rattle.bench_records.specs.Records.{feedBody, queueAt, firingBytes, Feeds, unfed, fed, feedsFrom, machineIn, Firings, unfired, firings}

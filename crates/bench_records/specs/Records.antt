@@ -5,13 +5,13 @@ use mathlib.Core.List.{List, [], _∷_}
 use lib.Dec.{eqb}
 use lib.ListN.{length, getD, drop, replicate}
 use lib.IntN.{pos}
-use Rattle.number.specs.Number.{shortOf, intOf}
-use Rattle.lists.specs.Lists.{build}
-use Rattle.operator.specs.Op.{Abstract}
-use Rattle.format.specs.Record.{HEADER, cut}
-use Rattle.bounds.specs.Bounds.{VARIABLES, FIELDS, QUEUES}
-use Rattle.store.specs.declared.Item.{Item}
-use Rattle.machine.specs.Machine.{Machine, Outcome, refuse, done, feedM}
+use Rattle.base_number.specs.Number.{shortOf, intOf}
+use Rattle.base_lists.specs.Lists.{build}
+use Rattle.sheet_operator.specs.Op.{Abstract}
+use Rattle.sheet_format.specs.Record.{HEADER, cut}
+use Rattle.base_bounds.specs.Bounds.{VARIABLES, FIELDS, QUEUES}
+use Rattle.run_store.specs.declared.Item.{Item}
+use Rattle.run_machine.specs.Machine.{Machine, Outcome, refuse, done, feedM}
 
 -- kind 16: a queue and the fields of an item
 abbrev pub feedKind : ℕ

@@ -1,30 +1,30 @@
 // The records of a `bench` input after its sheet: feeds, and then firings. Here they are looked at; nothing is fed or fired.
+use run_store::Item;
 use sheet::Sheet;
-use store::Item;
 ghost use mathlib.Core.Path.{_≡_};
 ghost use mathlib.Core.Bool.{true};
 ghost use Prim.Native.Nat.{_+_, _≤_};
 ghost use lib.ListN.{length, drop};
 ghost use Rattle.sheet.specs.Answer.{accepted};
 ghost use Rattle.sheet.specs.Check.{checkOf};
-ghost use Rattle.bounds.specs.Bounds.{QUEUES};
+ghost use Rattle.base_bounds.specs.Bounds.{QUEUES};
 ghost use Rattle.bench_records.specs.Records.{itemAt, feedBytes, start, isFeed, firingNumber, firingsFrom};
 ghost use Rattle.bench_records.specs.Looks.{feedNumber, feedsAfter, Looks, Listable, Lists};
 
 const FEED: usize = 16;
 
-const FEED_BODY: usize = 1 + 4 * store::FIELDS;
+const FEED_BODY: usize = 1 + 4 * run_store::FIELDS;
 
 // A feed's bytes, and where its fields begin.
-pub const FEED_BYTES: usize = format::HEADER + FEED_BODY;
+pub const FEED_BYTES: usize = sheet_format::HEADER + FEED_BODY;
 
-const FIELDS_AT: usize = format::HEADER + 1;
+const FIELDS_AT: usize = sheet_format::HEADER + 1;
 
 const FIRING: usize = 17;
 
 const FIRING_BODY: usize = 1;
 
-pub const FIRING_BYTES: usize = format::HEADER + FIRING_BODY;
+pub const FIRING_BYTES: usize = sheet_format::HEADER + FIRING_BODY;
 
 // How the feeds end: the refusal, 0 for none, and its record; else the number of the next record and where it starts.
 pub struct Looked {
@@ -45,10 +45,10 @@ pub fn is_feed(s: &[u8], at: usize) -> bool
     requires { ⌜ at ≤ length (now s) ⌝ }
     ensures { λ r. ⌜ r ≡ isFeed (drop at (now (s .entry))) ⌝ }
 {
-    if decode::is_cut(s, at) {
+    if sheet_decode::is_cut(s, at) {
         return false;
     }
-    number::short_at(s, at + 2) == FEED
+    base_number::short_at(s, at + 2) == FEED
 }
 
 // The item of the feed record at `at`.
@@ -57,11 +57,11 @@ pub fn item_at(s: &[u8], at: usize) -> Item
     ensures { λ r. ⌜ r ≡ itemAt (drop at (now (s .entry))) ⌝ }
 {
     let mut x = Item {
-        f: [0; store::FIELDS],
+        f: [0; run_store::FIELDS],
     };
     let mut i = 0;
-    while i < store::FIELDS {
-        let z = number::int_at(s, at + FIELDS_AT + 4 * i);
+    while i < run_store::FIELDS {
+        let z = base_number::int_at(s, at + FIELDS_AT + 4 * i);
         x.f[i] = z;
         i += 1;
     }
@@ -69,18 +69,18 @@ pub fn item_at(s: &[u8], at: usize) -> Item
 }
 
 // The refusal of the feed at `at`, 0 for none: by its body length, its queue, and how many items the queue has.
-fn feed_number(s: &[u8], at: usize, inputs: u8, counts: [u8; machine::QUEUES]) -> u8
+fn feed_number(s: &[u8], at: usize, inputs: u8, counts: [u8; run_machine::QUEUES]) -> u8
     requires { ⌜ (at ≤ length (now s)) × (isFeed (drop at (now s)) ≡ true) × (inputs ≤ QUEUES) ⌝ }
     ensures { λ r. ⌜ r ≡ feedNumber inputs counts (drop at (now (s .entry))) ⌝ }
 {
-    if number::short_at(s, at) != FEED_BODY {
+    if base_number::short_at(s, at) != FEED_BODY {
         return 1;
     }
-    let q = s[at + format::HEADER];
+    let q = s[at + sheet_format::HEADER];
     if inputs <= q {
         return 9;
     }
-    if machine::is_full(counts, q) {
+    if run_machine::is_full(counts, q) {
         return 12;
     }
     0
@@ -91,7 +91,7 @@ pub fn look_feeds(s: &[u8], from: usize, t: Sheet) -> Looked
     requires { ⌜ (checkOf t ≡ accepted) × (from ≤ length (now s)) ⌝ }
     ensures { λ r. ⌜ Looks (feedsAfter t start (drop from (now (s .entry)))) (now (s .entry)) r ⌝ }
 {
-    let mut counts = [0u8; machine::QUEUES];
+    let mut counts = [0u8; run_machine::QUEUES];
     let mut at = from;
     let mut spot = t.count as usize + 1;
     while is_feed(s, at) {
@@ -100,7 +100,7 @@ pub fn look_feeds(s: &[u8], from: usize, t: Sheet) -> Looked
         if number != 0 {
             return Looked { number, spot, at };
         }
-        let q = s[at + format::HEADER] as usize;
+        let q = s[at + sheet_format::HEADER] as usize;
         counts[q] += 1;
         at += FEED_BYTES;
         spot += 1;
@@ -117,13 +117,13 @@ fn firing_number(s: &[u8], at: usize) -> u8
     requires { ⌜ at ≤ length (now s) ⌝ }
     ensures { λ r. ⌜ r ≡ firingNumber (drop at (now (s .entry))) ⌝ }
 {
-    if decode::is_cut(s, at) {
+    if sheet_decode::is_cut(s, at) {
         return 1;
     }
-    if number::short_at(s, at + 2) != FIRING {
+    if base_number::short_at(s, at + 2) != FIRING {
         return 2;
     }
-    if number::short_at(s, at) != FIRING_BODY {
+    if base_number::short_at(s, at) != FIRING_BODY {
         return 1;
     }
     0
@@ -145,7 +145,7 @@ pub fn list_firings(s: &[u8], from: usize, spot: usize, list: &mut [u8]) -> List
                 count: n,
             };
         }
-        list[n] = s[at + format::HEADER];
+        list[n] = s[at + sheet_format::HEADER];
         at += FIRING_BYTES;
         n += 1;
     }

@@ -1,33 +1,33 @@
 -- The whole table is right: each row is computed.
 use mathlib.Core.Path.{refl}
 use lib.Count.{ones, trailingZeros}
-use Rattle.number.specs.Number.{shortOf, shortBytes, bitsOf, bitsBytes}
-use Rattle.step.specs.Step.{funcOf, stepNames, stepVariable, unusedZ, fieldPlace, stepPlaces, blank, stepBytes, stepOf}
-use Rattle.operator.specs.Memory.{tidyAs, memoryNumber, vacant}
-use Rattle.judge.specs.Judge.{four, five, six, seven, judgeBy, whole}
-use Rattle.format.specs.Record.{kindOf, recordBytes, cut, bodyGood, taken, opBytes}
-use Rattle.format.specs.Head.{headGood, headNumber}
+use Rattle.base_number.specs.Number.{shortOf, shortBytes, bitsOf, bitsBytes}
+use Rattle.sheet_step.specs.Step.{funcOf, stepNames, stepVariable, unusedZ, fieldPlace, stepPlaces, blank, stepBytes, stepOf}
+use Rattle.sheet_operator.specs.Memory.{tidyAs, memoryNumber, vacant}
+use Rattle.sheet_judge.specs.Judge.{four, five, six, seven, judgeBy, whole}
+use Rattle.sheet_format.specs.Record.{kindOf, recordBytes, cut, bodyGood, taken, opBytes}
+use Rattle.sheet_format.specs.Head.{headGood, headNumber}
 use Rattle.sheet.specs.Check.{checkFrom, ending, checkOf}
 use Rattle.codec_read.specs.Read.{readFrom, frontOf, readOf}
 use Rattle.codec_write.specs.Write.{writeOf}
 use Rattle.counts.specs.Worst.{feedGood}
 use Rattle.counts.specs.Answers.{worstOf}
-use Rattle.store.specs.Store.{part, withPart, fields, firstOf}
-use Rattle.store.specs.Queues.{encodeItems, queuePart, storeOf, itemsOf, queuesOf}
-use Rattle.store.specs.Quiet.{quietQueue, quietFrom}
-use Rattle.effect.specs.Flow.{does, stepped}
-use Rattle.effect.specs.Effect.{effect, waits, cursorGood}
-use Rattle.machine.specs.Machine.{commit, fireFrom, fireFirst, feedM, takeM, runFrom}
-use Rattle.machine.specs.Ready.{readySet}
-use Rattle.machine.specs.Numbers.{good}
+use Rattle.run_store.specs.Store.{part, withPart, fields, firstOf}
+use Rattle.run_store.specs.Queues.{encodeItems, queuePart, storeOf, itemsOf, queuesOf}
+use Rattle.run_store.specs.Quiet.{quietQueue, quietFrom}
+use Rattle.run_effect.specs.Flow.{does, stepped}
+use Rattle.run_effect.specs.Effect.{effect, waits, cursorGood}
+use Rattle.run_machine.specs.Machine.{commit, fireFrom, fireFirst, feedM, takeM, runFrom}
+use Rattle.run_machine.specs.Ready.{readySet}
+use Rattle.run_machine.specs.Numbers.{good}
 use Rattle.rewrite_rules.specs.Rewrite.{fuse, split, reorder}
 use Rattle.rewriter.specs.Calls.{fuseOf, splitOf, reorderOf}
-use Rattle.machine.specs.Calls.{fireOf, feedOf, takeOf, runOf, readyOf}
-use Rattle.text.specs.Text.{digits, natural, integer}
+use Rattle.run_machine.specs.Calls.{fireOf, feedOf, takeOf, runOf, readyOf}
+use Rattle.base_words.specs.Text.{digits, natural, integer}
 use Rattle.bench_records.specs.Records.{itemAt, isFeed, feedNext, feedsFrom, firingNumber, firingsFrom}
-use Rattle.trial.specs.Trial.{outputsAt, trialOf}
-use Rattle.lines.specs.Lines.{itemLine, variableLine, refusalLine, countsLine}
-use Rattle.report.specs.Print.{printed}
+use Rattle.bench_trial.specs.Trial.{outputsAt, trialOf}
+use Rattle.bench_lines.specs.Lines.{itemLine, variableLine, refusalLine, countsLine}
+use Rattle.bench_report.specs.Print.{printed}
 use Rattle.cases.specs.Case.{Rights}
 use Rattle.cases.specs.Table.{table}
 

@@ -12,17 +12,17 @@ use lib.IntN.{pos}
 use mir.Syntax.{w32}
 use mir.Val.{SFits}
 use borrow.Author.Needs.{sfits-of}
-use Rattle.number.specs.Number.{shortBytes, bitsBytes}
-use Rattle.step.specs.Step.{stepNames, stepVariable, unusedZ, fieldPlace, stepPlaces, noStep, blank, stepBytes}
-use Rattle.step.specs.declared.Func.{Func}
-use Rattle.step.specs.declared.Func.the-variants.{Keep, Add, Copy, Count, Stamp}
-use Rattle.step.specs.declared.Step.{Step}
-use Rattle.operator.specs.Memory.{tidyAs, memoryNumber, vacant, noOperator, Held}
-use Rattle.operator.proofs.Held.{held-no-operator}
-use Rattle.judge.specs.Judge.{four, five, six, seven, judgeBy, whole}
-use Rattle.format.specs.Record.{recordBytes, opBytes}
-use Rattle.format.specs.Head.{headGood}
-use Rattle.bounds.specs.Bounds.{OPERATORS}
+use Rattle.base_number.specs.Number.{shortBytes, bitsBytes}
+use Rattle.sheet_step.specs.Step.{stepNames, stepVariable, unusedZ, fieldPlace, stepPlaces, noStep, blank, stepBytes}
+use Rattle.sheet_step.specs.declared.Func.{Func}
+use Rattle.sheet_step.specs.declared.Func.the-variants.{Keep, Add, Copy, Count, Stamp}
+use Rattle.sheet_step.specs.declared.Step.{Step}
+use Rattle.sheet_operator.specs.Memory.{tidyAs, memoryNumber, vacant, noOperator, Held}
+use Rattle.sheet_operator.proofs.Held.{held-no-operator}
+use Rattle.sheet_judge.specs.Judge.{four, five, six, seven, judgeBy, whole}
+use Rattle.sheet_format.specs.Record.{recordBytes, opBytes}
+use Rattle.sheet_format.specs.Head.{headGood}
+use Rattle.base_bounds.specs.Bounds.{OPERATORS}
 use Rattle.sheet.specs.Answer.{accepted}
 use Rattle.sheet.specs.Sheet.{viewSheet, opAt, missing, HeldSheet}
 use Rattle.sheet.specs.Check.{checkFrom, ending, checkOf}

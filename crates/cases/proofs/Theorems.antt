@@ -60,46 +60,46 @@ pub use Rattle.counts.proofs.OneOutcome.{calm-one}
 -- two answers that meet the contract of the worst counts are equal
 pub use Rattle.counts.proofs.OneOutcome.{worst-one}
 -- the runner: a good state in numbers, decoded, is the state
-pub use Rattle.machine.proofs.Good.{decode-of-encode}
+pub use Rattle.run_machine.proofs.Good.{decode-of-encode}
 -- numbers pass 8 exactly if they are those of the state that they decode to, 0 from Q and from V on, every cursor in its range
-pub use Rattle.machine.proofs.Good.{good-exactly}
+pub use Rattle.run_machine.proofs.Good.{good-exactly}
 -- a firing keeps a state good
-pub use Rattle.machine.proofs.Keeps.{fire-keeps}
+pub use Rattle.run_machine.proofs.Keeps.{fire-keeps}
 -- a feed keeps a state good
-pub use Rattle.machine.proofs.Keeps.{feed-keeps}
+pub use Rattle.run_machine.proofs.Keeps.{feed-keeps}
 -- a take keeps a state good
-pub use Rattle.machine.proofs.Keeps.{take-keeps}
+pub use Rattle.run_machine.proofs.Keeps.{take-keeps}
 -- a firing takes exactly one item, the oldest of its queue, and does what the report's rule says
-pub use Rattle.machine.proofs.Firing.{fire-takes-one}
+pub use Rattle.run_machine.proofs.Firing.{fire-takes-one}
 -- it puts at most one item on each queue
-pub use Rattle.machine.proofs.Firing.{put-at-most-one}
+pub use Rattle.run_machine.proofs.Firing.{put-at-most-one}
 -- a firing is refused with 9, 10, 11 or 12 and with no other number
-pub use Rattle.machine.proofs.Firing.{fire-refusals}
+pub use Rattle.run_machine.proofs.Firing.{fire-refusals}
 -- a run fires an entry exactly if its firing, in the state reached by then, is accepted
-pub use Rattle.machine.proofs.RunLaws.{run-entry-fired}
+pub use Rattle.run_machine.proofs.RunLaws.{run-entry-fired}
 -- and skips it exactly if not
-pub use Rattle.machine.proofs.RunLaws.{run-entry-skipped}
+pub use Rattle.run_machine.proofs.RunLaws.{run-entry-skipped}
 -- an entry of a run that is refused leaves the machine as it was
-pub use Rattle.machine.proofs.RunLaws.{run-refused}
+pub use Rattle.run_machine.proofs.RunLaws.{run-refused}
 -- bit q of the ready set is 1 exactly if firing q would be accepted
-pub use Rattle.machine.proofs.ReadyLaws.{ready-bit}
+pub use Rattle.run_machine.proofs.ReadyLaws.{ready-bit}
 -- the set is 0 only if every queue number is refused
-pub use Rattle.machine.proofs.ReadyLaws.{ready-rest}
+pub use Rattle.run_machine.proofs.ReadyLaws.{ready-rest}
 -- and it is 0 if every queue number is refused
-pub use Rattle.machine.proofs.ReadyLaws.{rest-ready}
+pub use Rattle.run_machine.proofs.ReadyLaws.{rest-ready}
 -- the count of ones is the number of queues that are ready
-pub use Rattle.machine.proofs.ReadyLaws.{ready-count}
+pub use Rattle.run_machine.proofs.ReadyLaws.{ready-count}
 -- the trailing zeros are the lowest queue that is ready, 32 where none is
-pub use Rattle.machine.proofs.ReadyLaws.{ready-lowest}
+pub use Rattle.run_machine.proofs.ReadyLaws.{ready-lowest}
 -- where no queue is ready the lowest is 32
-pub use Rattle.machine.proofs.ReadyLaws.{ready-lowest-none}
+pub use Rattle.run_machine.proofs.ReadyLaws.{ready-lowest-none}
 -- of the calls themselves: where sheet and numbers stand, the ready set is 0 exactly if `fire` refuses every queue number
 pub use Rattle.runner.proofs.Rest.{rest-refuses-all, all-refused-rests}
 -- one outcome: fresh, feed and fire; take; run; ready
-pub use Rattle.machine.proofs.OneOutcome.{called-one, taken-one, ran-one, ready-one}
+pub use Rattle.run_machine.proofs.OneOutcome.{called-one, taken-one, ran-one, ready-one}
 -- which operator reads a queue; what trying an operator would do
 pub use Rattle.runner.proofs.OneOutcome.{reader-one}
-pub use Rattle.machine.proofs.OneOutcome.{attempt-one}
+pub use Rattle.run_machine.proofs.OneOutcome.{attempt-one}
 -- the rewriter: an accepted answer is an accepted, calm sheet again, and the one that the paper sets out
 pub use Rattle.order.proofs.Again.{fuse-again, split-again, reorder-again}
 -- one outcome: two answers that meet the contract of fuse, split or reorder are equal
@@ -121,7 +121,7 @@ pub use Rattle.order.proofs.Courses.{one-rest-of-calls}
 -- from any good state of an accepted sheet some list ends at rest
 pub use Rattle.order.proofs.Reaches.{reaches-rest}
 -- of the model alone: a run that ends at rest fires at most as often as the worst counts of the queues that are read say
-pub use Rattle.theory.proofs.Final.{firings-le}
+pub use Rattle.order_theory.proofs.Final.{firings-le}
 -- demand 3 speaks of sheet A, and of A reordered and then split, each fired in an order of its own
 pub use Rattle.order.proofs.Instance.{instance-met, instance}
 -- and of the same sides fired by sequences of calls, refused ones among them
@@ -129,20 +129,20 @@ pub use Rattle.order.proofs.Instance.{courses-met, instance-of-calls}
 -- what goes wrong without the conditions: the paper's four slips, and a sheet that is not calm
 pub use Rattle.order.proofs.Slips.{slips-show, rows-are-fed, rewritings-refused, accepted-not-calm, dropping-calm, gather-waits}
 -- what bench prints: it fits in TEXT bytes, and two outcomes that meet the report's contract are equal
-pub use Rattle.report.proofs.Fits.{text-fits}
-pub use Rattle.report.proofs.OneOutcome.{report-one}
+pub use Rattle.bench_report.proofs.Fits.{text-fits}
+pub use Rattle.bench_report.proofs.OneOutcome.{report-one}
 -- over-long input is 18 at record 0
-pub use Rattle.report.proofs.LongInput.{long-refused}
+pub use Rattle.bench_report.proofs.LongInput.{long-refused}
 -- the text of an input stands at the front of a buffer that is long enough
-pub use Rattle.report.proofs.OneOutcome.{text-at-front}
+pub use Rattle.bench_report.proofs.OneOutcome.{text-at-front}
 -- trying an input: two outcomes that meet the contract are equal, answer and store
-pub use Rattle.trial.proofs.OneOutcome.{tried-one}
+pub use Rattle.bench_trial.proofs.OneOutcome.{tried-one}
 -- the table of the paper's cases, every row computed
 pub use Rattle.cases.proofs.Cases.{cases}
 -- the table of steps: the code's table is the paper's, row by row
-pub use Rattle.step.proofs.Rows.{table-right}
+pub use Rattle.sheet_step.proofs.Rows.{table-right}
 -- its column of arities says how many places a function takes
-pub use Rattle.step.proofs.Rows.{arity-counts-places}
+pub use Rattle.sheet_step.proofs.Rows.{arity-counts-places}
 -- of the five functions split takes Add and Copy, reorder Keep, Add and Copy
 pub use Rattle.cases.proofs.Facts.{split-takes, reorder-takes}
 -- sheet A passes the check, is calm, is a sheet that the program can hold, takes 44 bytes, and is read back from where it is written

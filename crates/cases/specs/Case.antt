@@ -11,12 +11,12 @@ use Rattle.codec_read.specs.Read.{readOf}
 use Rattle.codec_write.specs.Write.{writeOf}
 use Rattle.counts.specs.Calm.{isCalm}
 use Rattle.counts.specs.Answers.{worstOf}
-use Rattle.store.specs.declared.Item.{Item}
-use Rattle.machine.specs.Machine.{Machine}
-use Rattle.machine.specs.Numbers.{stateOf, storeIn}
+use Rattle.run_store.specs.declared.Item.{Item}
+use Rattle.run_machine.specs.Machine.{Machine}
+use Rattle.run_machine.specs.Numbers.{stateOf, storeIn}
 use Rattle.rewriter.specs.Calls.{fuseOf, splitOf, reorderOf}
-use Rattle.report.specs.Print.{textOf}
-use Rattle.machine.specs.Calls.{Call, feedOf, takeOf, fireOf, runOf, readyOf}
+use Rattle.bench_report.specs.Print.{textOf}
+use Rattle.run_machine.specs.Calls.{Call, feedOf, takeOf, fireOf, runOf, readyOf}
 
 pub data Case : Type 0 where
   reads : (bytes : List ℕ) (answer : Paper) (sheet : Sheet) → Case

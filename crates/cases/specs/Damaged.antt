@@ -2,13 +2,13 @@
 use mathlib.Core.List.{List, [], _∷_}
 use Prim.Native.Nat.{ℕ}
 use lib.IntN.{pos}
-use Rattle.lists.specs.Lists.{pad}
-use Rattle.step.specs.declared.Func.the-variants.{None}
-use Rattle.step.specs.declared.Step.{Step}
-use Rattle.operator.specs.Memory.{placed, noOperator}
-use Rattle.operator.specs.declared.Kind.the-variants.{Empty, Line, Deal, Gather}
-use Rattle.operator.specs.declared.Operator.{Operator}
-use Rattle.bounds.specs.Bounds.{OPERATORS}
+use Rattle.base_lists.specs.Lists.{pad}
+use Rattle.sheet_step.specs.declared.Func.the-variants.{None}
+use Rattle.sheet_step.specs.declared.Step.{Step}
+use Rattle.sheet_operator.specs.Memory.{placed, noOperator}
+use Rattle.sheet_operator.specs.declared.Kind.the-variants.{Empty, Line, Deal, Gather}
+use Rattle.sheet_operator.specs.declared.Operator.{Operator}
+use Rattle.base_bounds.specs.Bounds.{OPERATORS}
 use Rattle.sheet.specs.declared.Sheet.{Sheet}
 use Rattle.order.specs.Samples.{addOne}
 

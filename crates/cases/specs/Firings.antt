@@ -3,10 +3,10 @@ use mathlib.Core.List.{List, [], _∷_}
 use Prim.Native.Nat.{ℕ}
 use lib.IntN.{ℤ, pos, negsuc}
 use lib.ListN.{replicate}
-use Rattle.step.specs.declared.Step.{Step}
-use Rattle.operator.specs.Op.{Op, line, deal, gather}
+use Rattle.sheet_step.specs.declared.Step.{Step}
+use Rattle.sheet_operator.specs.Op.{Op, line, deal, gather}
 use Rattle.sheet.specs.declared.Sheet.{Sheet}
-use Rattle.store.specs.declared.Item.{Item}
+use Rattle.run_store.specs.declared.Item.{Item}
 use Rattle.order.specs.Samples.{sheetOf, of, keepIn, countTo}
 
 -- the ends of the 32-bit range

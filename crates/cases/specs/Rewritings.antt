@@ -2,8 +2,8 @@
 use mathlib.Core.List.{List, [], _∷_, _++_}
 use Prim.Native.Nat.{ℕ}
 use lib.IntN.{pos}
-use Rattle.step.specs.declared.Step.{Step}
-use Rattle.operator.specs.Op.{Op, line, double, deal, gather}
+use Rattle.sheet_step.specs.declared.Step.{Step}
+use Rattle.sheet_operator.specs.Op.{Op, line, double, deal, gather}
 use Rattle.sheet.specs.declared.Sheet.{Sheet}
 use Rattle.order.specs.Samples.{sheetOf, keepIn, addOne}
 use Rattle.order.specs.Instance.{keepTwo, lessFive}

@@ -1,13 +1,13 @@
 -- Sheet A's bytes, its places in memory, and a bench input with its feeds and firings.
 use mathlib.Core.List.{List, [], _∷_, _++_}
 use Prim.Native.Nat.{ℕ}
-use Rattle.lists.specs.Lists.{pad, chain}
-use Rattle.step.specs.Step.{noStep}
-use Rattle.step.specs.declared.Step.{Step}
-use Rattle.operator.specs.Memory.{noOperator}
-use Rattle.operator.specs.declared.Kind.the-variants.{Line}
-use Rattle.operator.specs.declared.Operator.{Operator}
-use Rattle.bounds.specs.Bounds.{OPERATORS}
+use Rattle.base_lists.specs.Lists.{pad, chain}
+use Rattle.sheet_step.specs.Step.{noStep}
+use Rattle.sheet_step.specs.declared.Step.{Step}
+use Rattle.sheet_operator.specs.Memory.{noOperator}
+use Rattle.sheet_operator.specs.declared.Kind.the-variants.{Line}
+use Rattle.sheet_operator.specs.declared.Operator.{Operator}
+use Rattle.base_bounds.specs.Bounds.{OPERATORS}
 use Rattle.sheet.specs.declared.Sheet.{Sheet}
 use Rattle.order.specs.Instance.{keepTwo, lessFive}
 

@@ -3,14 +3,14 @@ use mathlib.Core.Bool.{true, false}
 use mathlib.Core.List.{List, [], _∷_, _++_}
 use lib.ListN.{take, replicate}
 use lib.IntN.{pos, negsuc}
-use Rattle.lists.specs.Lists.{pad}
-use Rattle.operator.specs.Memory.{noOperator}
+use Rattle.base_lists.specs.Lists.{pad}
+use Rattle.sheet_operator.specs.Memory.{noOperator}
 use Rattle.sheet.specs.Answer.{accepted, refusedAt, refused}
 use Rattle.sheet.specs.Sheet.{noSheet}
-use Rattle.bounds.specs.Bounds.{QUEUES, ROOM}
-use Rattle.store.specs.declared.Item.{Item}
-use Rattle.machine.specs.Machine.{Machine}
-use Rattle.text.specs.Text.{word}
+use Rattle.base_bounds.specs.Bounds.{QUEUES, ROOM}
+use Rattle.run_store.specs.declared.Item.{Item}
+use Rattle.run_machine.specs.Machine.{Machine}
+use Rattle.base_words.specs.Text.{word}
 use Rattle.order.specs.Samples.{item, of, holding, addOne}
 use Rattle.order.specs.Instance.{sheetA, itemsA, reorderedA}
 use Rattle.order.specs.Slips.{restless}

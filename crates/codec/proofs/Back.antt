@@ -5,14 +5,14 @@ use mathlib.Core.Bool.{true}
 use mathlib.Core.List.{List, [], _++_, append-nil}
 use Prim.Native.Nat.{ℕ, _<_}
 use lib.ListN.{length, getD, drop}
-use Rattle.lists.specs.Lists.{chain}
-use Rattle.lists.proofs.Build.{build-length}
-use Rattle.operator.specs.Op.{Abstract}
-use Rattle.operator.specs.Memory.{view}
-use Rattle.format.specs.Record.{opBytes}
-use Rattle.format.specs.Head.{HEAD_BYTES, headGood, headBytes}
-use Rattle.format.proofs.Heads.{head-inputs, head-queues, head-variables, head-count, after-head, head-of-bytes, ranges-of-good, head-good-of-number}
-use Rattle.format.proofs.Heads.{bytes-of-head}
+use Rattle.base_lists.specs.Lists.{chain}
+use Rattle.base_lists.proofs.Build.{build-length}
+use Rattle.sheet_operator.specs.Op.{Abstract}
+use Rattle.sheet_operator.specs.Memory.{view}
+use Rattle.sheet_format.specs.Record.{opBytes}
+use Rattle.sheet_format.specs.Head.{HEAD_BYTES, headGood, headBytes}
+use Rattle.sheet_format.proofs.Heads.{head-inputs, head-queues, head-variables, head-count, after-head, head-of-bytes, ranges-of-good, head-good-of-number}
+use Rattle.sheet_format.proofs.Heads.{bytes-of-head}
 use Rattle.sheet.specs.declared.Sheet.{Sheet}
 use Rattle.sheet.specs.Answer.{accepted}
 use Rattle.sheet.specs.Sheet.{opAt, viewTo, viewSheet, memorySheet, HeldSheet}

@@ -7,7 +7,7 @@ use mathlib.Core.List.{List}
 use Prim.Native.Nat.{ℕ, _<_, _≤_}
 use native.Mathlib.Omega.{arith}
 use lib.ListN.{length, take, drop, length-append}
-use Rattle.lists.proofs.Build.{order, never}
+use Rattle.base_lists.proofs.Build.{order, never}
 use Rattle.sheet.specs.declared.Answer.the-variants.{Done}
 use Rattle.sheet.specs.declared.Sheet.{Sheet}
 use Rattle.sheet.specs.Answer.{Paper, paper, accepted, refusedAt, isAccepted}

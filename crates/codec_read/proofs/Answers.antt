@@ -9,14 +9,14 @@ use native.Mathlib.Omega.{arith}
 use lib.Dec.{eqb}
 use lib.ListN.{length, getD, drop}
 use borrow.Author.Tests.{eqb-true, eq-eqb, ne-eqb}
-use Rattle.lists.specs.Lists.{chain}
-use Rattle.lists.proofs.Build.{same-or}
-use Rattle.operator.specs.Op.{Op, Abstract}
-use Rattle.judge.specs.Judge.{known, whole}
-use Rattle.format.specs.Record.{opBytes}
-use Rattle.format.specs.Head.{HEAD_BYTES, headNumber}
-use Rattle.format.proofs.Fronts.{drop-below}
-use Rattle.format.proofs.Heads.{head-number-most}
+use Rattle.base_lists.specs.Lists.{chain}
+use Rattle.base_lists.proofs.Build.{same-or}
+use Rattle.sheet_operator.specs.Op.{Op, Abstract}
+use Rattle.sheet_judge.specs.Judge.{known, whole}
+use Rattle.sheet_format.specs.Record.{opBytes}
+use Rattle.sheet_format.specs.Head.{HEAD_BYTES, headNumber}
+use Rattle.sheet_format.proofs.Fronts.{drop-below}
+use Rattle.sheet_format.proofs.Heads.{head-number-most}
 use Rattle.sheet.specs.Answer.{Paper, accepted, refusedAt, refused, isAccepted}
 use Rattle.sheet.specs.Sheet.{memorySheet, noSheet}
 use Rattle.sheet.specs.Check.{Kept, stopped, nextRecord, ending}

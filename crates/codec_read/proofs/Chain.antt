@@ -6,14 +6,14 @@ use mathlib.Core.List.{List, [], _∷_, _++_, append-assoc}
 use Prim.Native.Nat.{ℕ, zero, suc, _+_, _<_, _≤_}
 use native.Mathlib.Omega.{arith}
 use lib.ListN.{length, getD, length-append}
-use Rattle.lists.specs.Lists.{chain}
-use Rattle.lists.proofs.Build.{same-or}
-use Rattle.operator.specs.Op.{Op, Abstract, with}
-use Rattle.judge.specs.Judge.{known, judge}
-use Rattle.format.specs.Record.{Taken, bad, took, taken, opIn, restIn, opBytes}
-use Rattle.format.proofs.Sizes.{FitsOp}
-use Rattle.format.proofs.Written.{taken-of-bytes}
-use Rattle.format.proofs.Read.{number-of-bad, small-of-taken, rest-below, bytes-of-taken}
+use Rattle.base_lists.specs.Lists.{chain}
+use Rattle.base_lists.proofs.Build.{same-or}
+use Rattle.sheet_operator.specs.Op.{Op, Abstract, with}
+use Rattle.sheet_judge.specs.Judge.{known, judge}
+use Rattle.sheet_format.specs.Record.{Taken, bad, took, taken, opIn, restIn, opBytes}
+use Rattle.sheet_format.proofs.Sizes.{FitsOp}
+use Rattle.sheet_format.proofs.Written.{taken-of-bytes}
+use Rattle.sheet_format.proofs.Read.{number-of-bad, small-of-taken, rest-below, bytes-of-taken}
 use Rattle.sheet.specs.Check.{stopped, kept, nextRecord}
 use Rattle.sheet.proofs.Turns.{judged-most}
 use Rattle.sheet.proofs.Placed.{nth}

@@ -6,14 +6,14 @@ use mathlib.Core.List.{List, [], _∷_, _++_, append-nil, append-assoc}
 use Prim.Native.Nat.{ℕ, zero, suc, _<_}
 use native.Mathlib.Omega.{arith}
 use lib.ListN.{length, take}
-use Rattle.lists.proofs.Tests.{both, all-implies}
-use Rattle.step.specs.Step.{knownFunc, stepPlaces}
-use Rattle.step.specs.declared.Step.{Step}
-use Rattle.operator.specs.Op.{Op, line, latest, double, deal, gather, Abstract, with}
-use Rattle.operator.proofs.ViewLaws.{Small}
-use Rattle.judge.specs.Judge.{known, seven, judge}
-use Rattle.judge.proofs.JudgedLaws.{judged-seven}
-use Rattle.format.proofs.Sizes.{knownOp}
+use Rattle.base_lists.proofs.Tests.{both, all-implies}
+use Rattle.sheet_step.specs.Step.{knownFunc, stepPlaces}
+use Rattle.sheet_step.specs.declared.Step.{Step}
+use Rattle.sheet_operator.specs.Op.{Op, line, latest, double, deal, gather, Abstract, with}
+use Rattle.sheet_operator.proofs.ViewLaws.{Small}
+use Rattle.sheet_judge.specs.Judge.{known, seven, judge}
+use Rattle.sheet_judge.proofs.JudgedLaws.{judged-seven}
+use Rattle.sheet_format.proofs.Sizes.{knownOp}
 use Rattle.sheet.proofs.Placed.{nth}
 
 -- more operators after those kept

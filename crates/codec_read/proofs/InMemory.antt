@@ -6,20 +6,20 @@ use mathlib.Core.List.{List}
 use Prim.Native.Nat.{ℕ, _<_, _≤_}
 use native.Mathlib.Omega.{arith}
 use lib.ListN.{length, getD}
-use Rattle.lists.proofs.Build.{take-of-build}
-use Rattle.step.specs.Step.{noStep}
-use Rattle.operator.specs.Op.{Op, double, Abstract}
-use Rattle.operator.specs.Memory.{view, viewAs, Held}
-use Rattle.operator.specs.declared.Kind.{Kind}
-use Rattle.operator.specs.declared.Kind.the-variants.{Empty, Line, Latest, Double, Deal, Gather}
-use Rattle.operator.specs.declared.Operator.{Operator}
-use Rattle.operator.proofs.ViewLaws.{small-view}
-use Rattle.judge.specs.Judge.{known, judge, whole}
-use Rattle.format.specs.Head.{headGood}
-use Rattle.bounds.specs.Bounds.{OPERATORS}
-use Rattle.format.proofs.Sizes.{FitsOp}
-use Rattle.format.proofs.Heads.{ranges-of-good}
-use Rattle.format.proofs.Read.{steps-fit}
+use Rattle.base_lists.proofs.Build.{take-of-build}
+use Rattle.sheet_step.specs.Step.{noStep}
+use Rattle.sheet_operator.specs.Op.{Op, double, Abstract}
+use Rattle.sheet_operator.specs.Memory.{view, viewAs, Held}
+use Rattle.sheet_operator.specs.declared.Kind.{Kind}
+use Rattle.sheet_operator.specs.declared.Kind.the-variants.{Empty, Line, Latest, Double, Deal, Gather}
+use Rattle.sheet_operator.specs.declared.Operator.{Operator}
+use Rattle.sheet_operator.proofs.ViewLaws.{small-view}
+use Rattle.sheet_judge.specs.Judge.{known, judge, whole}
+use Rattle.sheet_format.specs.Head.{headGood}
+use Rattle.base_bounds.specs.Bounds.{OPERATORS}
+use Rattle.sheet_format.proofs.Sizes.{FitsOp}
+use Rattle.sheet_format.proofs.Heads.{ranges-of-good}
+use Rattle.sheet_format.proofs.Read.{steps-fit}
 use Rattle.sheet.specs.declared.Sheet.{Sheet}
 use Rattle.sheet.specs.Sheet.{opAt, viewTo, viewSheet, memorySheet, HeldSheet}
 use Rattle.sheet.proofs.Accepted.{Accepted}

@@ -10,15 +10,15 @@ use native.Mathlib.Omega.{arith}
 use lib.Dec.{eqb}
 use lib.ListN.{length, getD, drop, length-drop, length-append}
 use borrow.Author.Tests.{eq-eqb, ne-eqb}
-use Rattle.number.specs.Number.{shortOf}
-use Rattle.lists.proofs.Build.{same-or}
-use Rattle.operator.specs.Op.{Op, Abstract, with}
-use Rattle.operator.specs.Memory.{isEmpty}
-use Rattle.judge.specs.Judge.{known, whole}
-use Rattle.format.specs.Record.{HEADER, cut, bodyGood, kindOf, opOf, bad, took, taken, opIn, restIn}
-use Rattle.format.specs.Head.{HEAD_BYTES, headNumber}
-use Rattle.bounds.specs.Bounds.{OPERATORS}
-use Rattle.format.proofs.Heads.{ranges-of-good, head-good-of-number}
+use Rattle.base_number.specs.Number.{shortOf}
+use Rattle.base_lists.proofs.Build.{same-or}
+use Rattle.sheet_operator.specs.Op.{Op, Abstract, with}
+use Rattle.sheet_operator.specs.Memory.{isEmpty}
+use Rattle.sheet_judge.specs.Judge.{known, whole}
+use Rattle.sheet_format.specs.Record.{HEADER, cut, bodyGood, kindOf, opOf, bad, took, taken, opIn, restIn}
+use Rattle.sheet_format.specs.Head.{HEAD_BYTES, headNumber}
+use Rattle.base_bounds.specs.Bounds.{OPERATORS}
+use Rattle.sheet_format.proofs.Heads.{ranges-of-good, head-good-of-number}
 use Rattle.sheet.specs.declared.Answer.the-variants.{Done, RefusedAt, Refused}
 use Rattle.sheet.specs.declared.Sheet.{Sheet}
 use Rattle.sheet.specs.Answer.{paper, accepted, refusedAt, isAccepted}

@@ -7,22 +7,22 @@ use Prim.Native.Nat.{ℕ, _+_, _-_, _<_, _≤_}
 use native.Mathlib.Omega.{arith}
 use lib.ListN.{length, set, getD, drop, length-append}
 use borrow.Author.Tests.{eq-eqb, ne-eqb}
-use Rattle.number.specs.Number.{shortOf}
-use Rattle.operator.specs.Op.{Op, Abstract, with}
-use Rattle.operator.specs.Memory.{isEmpty, memory, view, Ready}
-use Rattle.operator.specs.declared.Operator.{Operator}
-use Rattle.operator.proofs.ViewLaws.{Small, view-memory, ready-memory}
-use Rattle.judge.specs.Judge.{Known, known, knownOf, judgeBy, after, whole}
-use Rattle.judge.specs.Seen.{knownBy}
-use Rattle.judge.specs.declared.Seen.{Seen}
-use Rattle.judge.proofs.KnownLaws.{known-with}
-use Rattle.format.specs.Record.{HEADER, cut, bodyGood, kindOf, opOf, Taken, bad, took, taken, refusalIn, opIn, restIn}
-use Rattle.format.specs.Head.{HEAD_BYTES, headNumber}
-use Rattle.bounds.specs.Bounds.{OPERATORS, VARIABLES, QUEUES}
-use Rattle.format.proofs.Heads.{HeadRanges, ranges-of-good, head-good-of-number, head-room}
-use Rattle.format.proofs.Read.{small-of-taken}
-use Rattle.decode.specs.declared.Head.{Head}
-use Rattle.decode.proofs.Takes.{HeadTakes}
+use Rattle.base_number.specs.Number.{shortOf}
+use Rattle.sheet_operator.specs.Op.{Op, Abstract, with}
+use Rattle.sheet_operator.specs.Memory.{isEmpty, memory, view, Ready}
+use Rattle.sheet_operator.specs.declared.Operator.{Operator}
+use Rattle.sheet_operator.proofs.ViewLaws.{Small, view-memory, ready-memory}
+use Rattle.sheet_judge.specs.Judge.{Known, known, knownOf, judgeBy, after, whole}
+use Rattle.sheet_judge.specs.Seen.{knownBy}
+use Rattle.sheet_judge.specs.declared.Seen.{Seen}
+use Rattle.sheet_judge.proofs.KnownLaws.{known-with}
+use Rattle.sheet_format.specs.Record.{HEADER, cut, bodyGood, kindOf, opOf, Taken, bad, took, taken, refusalIn, opIn, restIn}
+use Rattle.sheet_format.specs.Head.{HEAD_BYTES, headNumber}
+use Rattle.base_bounds.specs.Bounds.{OPERATORS, VARIABLES, QUEUES}
+use Rattle.sheet_format.proofs.Heads.{HeadRanges, ranges-of-good, head-good-of-number, head-room}
+use Rattle.sheet_format.proofs.Read.{small-of-taken}
+use Rattle.sheet_decode.specs.declared.Head.{Head}
+use Rattle.sheet_decode.proofs.Takes.{HeadTakes}
 use Rattle.sheet.specs.declared.Sheet.{Sheet}
 use Rattle.sheet.specs.Sheet.{memorySheet}
 use Rattle.sheet.specs.Check.{stopped, kept, nextRecord}

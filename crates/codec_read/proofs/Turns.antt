@@ -7,12 +7,12 @@ use Prim.Native.Nat.{ℕ, suc, _+_, _-_, _<_, _≤_}
 use native.Mathlib.Omega.{arith}
 use lib.ListN.{length, set, length-map}
 use borrow.Author.Tests.{eq-eqb, ne-eqb}
-use Rattle.lists.specs.Lists.{pad}
-use Rattle.lists.proofs.Pad.{pad-set}
-use Rattle.operator.specs.Op.{Op, Abstract, with}
-use Rattle.operator.specs.Memory.{memory, noOperator}
-use Rattle.format.specs.Record.{taken, opIn, restIn}
-use Rattle.bounds.specs.Bounds.{OPERATORS}
+use Rattle.base_lists.specs.Lists.{pad}
+use Rattle.base_lists.proofs.Pad.{pad-set}
+use Rattle.sheet_operator.specs.Op.{Op, Abstract, with}
+use Rattle.sheet_operator.specs.Memory.{memory, noOperator}
+use Rattle.sheet_format.specs.Record.{taken, opIn, restIn}
+use Rattle.base_bounds.specs.Bounds.{OPERATORS}
 use Rattle.sheet.specs.Sheet.{memorySheet}
 use Rattle.sheet.specs.Check.{stopped, kept, nextRecord}
 use Rattle.codec_read.specs.Read.{numberAfter, readFrom}

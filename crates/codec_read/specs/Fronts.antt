@@ -5,8 +5,8 @@ use Prim.Native.Nat.{ℕ, _+_}
 use mathlib.Core.Bool.{Bool, cond, _&&_}
 use lib.Dec.{eqb}
 use lib.ListN.{length}
-use Rattle.operator.specs.Op.{Abstract}
-use Rattle.decode.specs.declared.Head.{Head}
+use Rattle.sheet_operator.specs.Op.{Abstract}
+use Rattle.sheet_decode.specs.declared.Head.{Head}
 use Rattle.sheet.specs.declared.Sheet.{Sheet}
 use Rattle.sheet.specs.Answer.{paper, accepted, refusedAt}
 use Rattle.sheet.specs.Sheet.{noSheet}

@@ -4,10 +4,10 @@ use mathlib.Core.Bool.{Bool, false, cond, not}
 use mathlib.Core.List.{List, []}
 use lib.Dec.{eqb}
 use lib.ListN.{length, getD, drop}
-use Rattle.operator.specs.Op.{Abstract, with}
-use Rattle.judge.specs.Judge.{known, judge, whole}
-use Rattle.format.specs.Record.{Taken, bad, took, taken, opIn, restIn}
-use Rattle.format.specs.Head.{headNumber, HEAD_BYTES}
+use Rattle.sheet_operator.specs.Op.{Abstract, with}
+use Rattle.sheet_judge.specs.Judge.{known, judge, whole}
+use Rattle.sheet_format.specs.Record.{Taken, bad, took, taken, opIn, restIn}
+use Rattle.sheet_format.specs.Head.{headNumber, HEAD_BYTES}
 use Rattle.sheet.specs.declared.Sheet.{Sheet}
 use Rattle.sheet.specs.Answer.{Paper, accepted, refusedAt, isAccepted}
 use Rattle.sheet.specs.Sheet.{memorySheet, noSheet}

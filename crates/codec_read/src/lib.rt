@@ -1,13 +1,13 @@
 // Sheets from bytes.
-use decode::Head;
 use sheet::Answer;
 use sheet::Sheet;
+use sheet_decode::Head;
 ghost use mathlib.Core.Path.{_≡_};
 ghost use mathlib.Core.Bool.{false};
 ghost use Prim.Native.Nat.{_≤_};
 ghost use lib.ListN.{length};
-ghost use Rattle.bounds.specs.Bounds.{OPERATORS};
-ghost use Rattle.decode.specs.Takes.{headTaken};
+ghost use Rattle.base_bounds.specs.Bounds.{OPERATORS};
+ghost use Rattle.sheet_decode.specs.Takes.{headTaken};
 ghost use Rattle.sheet.specs.Sheet.{memorySheet, noSheet};
 ghost use Rattle.codec_read.specs.Fronts.{headed, Fronts, Ends, Reads};
 
@@ -40,7 +40,7 @@ fn stopped(number: u8, spot: u8) -> Front
 fn bare(h: Head) -> Sheet
     ensures { λ r. ⌜ r ≡ memorySheet (headed h) ⌝ }
 {
-    let operators = [decode::NO_OPERATOR; sheet::OPERATORS];
+    let operators = [sheet_decode::NO_OPERATOR; sheet::OPERATORS];
     Sheet {
         inputs: h.inputs,
         queues: h.queues,
@@ -59,18 +59,18 @@ fn read_operators(s: &[u8], h: Head) -> Front
     let queues = h.queues;
     let variables = h.variables;
     let mut t = bare(h);
-    let mut seen = judge::inputs_seen(h.inputs);
-    let mut at = format::HEAD_BYTES;
+    let mut seen = sheet_judge::inputs_seen(h.inputs);
+    let mut at = sheet_format::HEAD_BYTES;
     let mut i = 0;
     while i < n {
         let spot = (i + 1) as u8;
-        let r = decode::take(s, at);
+        let r = sheet_decode::take(s, at);
         let number = r.number;
         if number != 0 {
             return stopped(number, spot);
         }
         let o = r.op;
-        let a = judge::admit(queues, variables, seen, o);
+        let a = sheet_judge::admit(queues, variables, seen, o);
         let number = a.number;
         if number != 0 {
             return stopped(number, spot);
@@ -82,7 +82,7 @@ fn read_operators(s: &[u8], h: Head) -> Front
         at = r.next;
         i += 1;
     }
-    let whole = judge::all_defined(seen, queues);
+    let whole = sheet_judge::all_defined(seen, queues);
     Front {
         answer: Answer::Done,
         sheet: t,
@@ -95,7 +95,7 @@ fn read_operators(s: &[u8], h: Head) -> Front
 pub fn read_front(s: &[u8]) -> Front
     ensures { λ r. ⌜ Fronts (now (s .entry)) r ⌝ }
 {
-    let h = decode::take_head(s);
+    let h = sheet_decode::take_head(s);
     let number = h.number;
     if number != 0 {
         return stopped(number, 0);

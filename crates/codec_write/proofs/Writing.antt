@@ -8,14 +8,14 @@ use native.Mathlib.Omega.{arith}
 use lib.ListN.{length, drop, length-append}
 use lib.Seq.{sets}
 use borrow.Author.Tests.{le-leb, lt-leb}
-use Rattle.lists.specs.Lists.{chain}
-use Rattle.lists.proofs.Build.{build-length}
-use Rattle.lists.proofs.Sets.{sets-append, sets-front}
-use Rattle.lists.proofs.Chains.{chain-snoc}
-use Rattle.operator.specs.Memory.{view}
-use Rattle.format.specs.Record.{opBytes}
-use Rattle.format.specs.Head.{HEAD_BYTES, headBytes}
-use Rattle.format.proofs.Heads.{length-head-bytes}
+use Rattle.base_lists.specs.Lists.{chain}
+use Rattle.base_lists.proofs.Build.{build-length}
+use Rattle.base_lists.proofs.Sets.{sets-append, sets-front}
+use Rattle.base_lists.proofs.Chains.{chain-snoc}
+use Rattle.sheet_operator.specs.Memory.{view}
+use Rattle.sheet_format.specs.Record.{opBytes}
+use Rattle.sheet_format.specs.Head.{HEAD_BYTES, headBytes}
+use Rattle.sheet_format.proofs.Heads.{length-head-bytes}
 use Rattle.sheet.specs.declared.Answer.{Answer}
 use Rattle.sheet.specs.declared.Answer.the-variants.{Done, RefusedAt}
 use Rattle.sheet.specs.declared.Sheet.{Sheet}

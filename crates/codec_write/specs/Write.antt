@@ -5,10 +5,10 @@ use mathlib.Core.Bool.{cond}
 use mathlib.Core.List.{List, _++_}
 use lib.Dec.{leb}
 use lib.ListN.{length, drop}
-use Rattle.lists.specs.Lists.{chain}
-use Rattle.operator.specs.Op.{Abstract}
-use Rattle.format.specs.Record.{opBytes}
-use Rattle.format.specs.Head.{headBytes}
+use Rattle.base_lists.specs.Lists.{chain}
+use Rattle.sheet_operator.specs.Op.{Abstract}
+use Rattle.sheet_format.specs.Record.{opBytes}
+use Rattle.sheet_format.specs.Head.{headBytes}
 use Rattle.sheet.specs.declared.Sheet.{Sheet}
 use Rattle.sheet.specs.Answer.{Paper, paper, accepted, refusedAt, isAccepted}
 use Rattle.sheet.specs.Sheet.{viewSheet}

@@ -22,11 +22,11 @@ fn bytes_length(t: Sheet) -> usize
     ensures { λ r. ⌜ r ≡ length (sheetBytes (viewSheet t)) ⌝ }
 {
     let n = t.count as usize;
-    let mut sum = format::HEAD_BYTES;
+    let mut sum = sheet_format::HEAD_BYTES;
     let mut i = 0;
     while i < n {
         let o = t.operators[i];
-        sum += encode::record_length(o);
+        sum += sheet_encode::record_length(o);
         i += 1;
     }
     sum
@@ -38,13 +38,13 @@ fn put_sheet(buffer: &mut [u8], t: Sheet)
     ensures { λ _. ⌜ now (buffer .exit) ≡ sets (now (buffer .entry)) 0 (sheetBytes (viewSheet t)) ⌝ }
 {
     let n = t.count as usize;
-    encode::put_head(buffer, t.inputs, t.queues, t.variables, t.count);
-    let mut end = format::HEAD_BYTES;
+    sheet_encode::put_head(buffer, t.inputs, t.queues, t.variables, t.count);
+    let mut end = sheet_format::HEAD_BYTES;
     let mut i = 0;
     while i < n {
         let o = t.operators[i];
-        encode::put(buffer, end, o);
-        end += encode::record_length(o);
+        sheet_encode::put(buffer, end, o);
+        end += sheet_encode::record_length(o);
         i += 1;
     }
 }

@@ -8,11 +8,11 @@ use native.Mathlib.Nat.{div-eq-of-lt, div-le-of-le-mul, mul-suc, le-trans, mul-l
 use native.Mathlib.Omega.{arith}
 use lib.ListN.{length, getD, set}
 use lib.Seq.{getD-set-same, getD-set-other, set-out}
-use Rattle.lists.specs.Lists.{sum}
-use Rattle.lists.proofs.Build.{order, same-or}
-use Rattle.operator.specs.Op.{Op, line, latest, double, deal, gather}
-use Rattle.operator.proofs.ViewLaws.{Small}
-use Rattle.bounds.specs.Bounds.{OPERATORS, ROOM}
+use Rattle.base_lists.specs.Lists.{sum}
+use Rattle.base_lists.proofs.Build.{order, same-or}
+use Rattle.sheet_operator.specs.Op.{Op, line, latest, double, deal, gather}
+use Rattle.sheet_operator.proofs.ViewLaws.{Small}
+use Rattle.base_bounds.specs.Bounds.{OPERATORS, ROOM}
 use Rattle.counts.specs.Worst.{dealWorst, dealt, worstOp}
 
 -- every count is at most b

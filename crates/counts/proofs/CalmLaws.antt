@@ -8,11 +8,11 @@ use Prim.Native.Nat.{ℕ, zero, suc, _<_, _≤_}
 use native.Mathlib.Omega.{arith}
 use lib.ListN.{length, getD}
 use borrow.Author.Tests.{not-true}
-use Rattle.lists.specs.Lists.{all, member}
-use Rattle.lists.proofs.Build.{never, order}
-use Rattle.lists.proofs.Tests.{both, both-of, neither, neither-of, all-member}
-use Rattle.lists.proofs.Members.{all-of-members}
-use Rattle.operator.specs.Op.{Op, Abstract, names}
+use Rattle.base_lists.specs.Lists.{all, member}
+use Rattle.base_lists.proofs.Build.{never, order}
+use Rattle.base_lists.proofs.Tests.{both, both-of, neither, neither-of, all-member}
+use Rattle.base_lists.proofs.Members.{all-of-members}
+use Rattle.sheet_operator.specs.Op.{Op, Abstract, names}
 use Rattle.counts.specs.Calm.{calmFrom, isCalm}
 
 -- no operator names a variable of d

@@ -6,12 +6,12 @@ use Prim.Native.Nat.{ℕ, _<_}
 use native.Mathlib.Omega.{arith}
 use lib.Dec.{ltb}
 use borrow.Author.Tests.{lt-ltb}
-use Rattle.lists.specs.Lists.{all}
-use Rattle.lists.proofs.Members.{all-of-members}
-use Rattle.operator.specs.Op.{names}
-use Rattle.operator.specs.Memory.{view, Ready}
-use Rattle.operator.proofs.ViewLaws.{ready-of-number, Small, small-view}
-use Rattle.judge.specs.Seen.{FLAGS}
+use Rattle.base_lists.specs.Lists.{all}
+use Rattle.base_lists.proofs.Members.{all-of-members}
+use Rattle.sheet_operator.specs.Op.{names}
+use Rattle.sheet_operator.specs.Memory.{view, Ready}
+use Rattle.sheet_operator.proofs.ViewLaws.{ready-of-number, Small, small-view}
+use Rattle.sheet_judge.specs.Seen.{FLAGS}
 use Rattle.sheet.specs.Answer.{accepted, paper}
 use Rattle.sheet.specs.Check.{checkOf}
 use Rattle.sheet.specs.Sheet.{opAt}

@@ -7,10 +7,10 @@ use Prim.Native.Nat.{ℕ, zero, suc, _+_, _-_, _/_, _<_}
 use native.Mathlib.Numerals.{add-one}
 use native.Mathlib.Omega.{arith}
 use lib.ListN.{set}
-use Rattle.lists.specs.Lists.{build, all, member, sum}
-use Rattle.lists.proofs.Build.{build-snoc}
-use Rattle.lists.proofs.Rest.{rest, rest-turn}
-use Rattle.operator.specs.Op.{Op, names}
+use Rattle.base_lists.specs.Lists.{build, all, member, sum}
+use Rattle.base_lists.proofs.Build.{build-snoc}
+use Rattle.base_lists.proofs.Rest.{rest, rest-turn}
+use Rattle.sheet_operator.specs.Op.{Op, names}
 use Rattle.counts.specs.Calm.{calmFrom}
 use Rattle.counts.specs.Worst.{dealWorst, dealt, worstOp, worstFrom}
 

@@ -11,13 +11,13 @@ use lib.Dec.{ltb, leb, eqb}
 use lib.ListN.{length, getD, set, length-set, List·getD-eq-default}
 use lib.Seq.{getD-set-other}
 use borrow.Author.Tests.{lt-ltb, le-ltb, leb-true, eqb-true, eqb-false}
-use Rattle.lists.specs.Lists.{any, member, sum}
-use Rattle.lists.proofs.Build.{order}
-use Rattle.lists.proofs.Tests.{neither, all-build, any-build}
-use Rattle.lists.proofs.Places.{same-at}
-use Rattle.operator.specs.Op.{Op, line, latest, double, deal, gather, defines}
-use Rattle.operator.specs.Memory.{view}
-use Rattle.bounds.specs.Bounds.{QUEUES, ROOM}
+use Rattle.base_lists.specs.Lists.{any, member, sum}
+use Rattle.base_lists.proofs.Build.{order}
+use Rattle.base_lists.proofs.Tests.{neither, all-build, any-build}
+use Rattle.base_lists.proofs.Places.{same-at}
+use Rattle.sheet_operator.specs.Op.{Op, line, latest, double, deal, gather, defines}
+use Rattle.sheet_operator.specs.Memory.{view}
+use Rattle.base_bounds.specs.Bounds.{QUEUES, ROOM}
 use Rattle.sheet.specs.Answer.{accepted, refused, isAccepted}
 use Rattle.sheet.specs.Check.{checkOf}
 use Rattle.sheet.specs.Sheet.{opAt, viewSheet}

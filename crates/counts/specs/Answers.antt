@@ -4,7 +4,7 @@ use mathlib.Core.Bool.{cond, _&&_}
 use mathlib.Core.List.{List}
 use Prim.Native.Nat.{ℕ}
 use lib.ListN.{replicate}
-use Rattle.bounds.specs.Bounds.{QUEUES}
+use Rattle.base_bounds.specs.Bounds.{QUEUES}
 use Rattle.sheet.specs.declared.Sheet.{Sheet}
 use Rattle.sheet.specs.Answer.{Paper, accepted, refused, isAccepted, paper}
 use Rattle.sheet.specs.Sheet.{viewSheet}

@@ -2,8 +2,8 @@
 use Prim.Native.Nat.{ℕ}
 use mathlib.Core.Bool.{Bool, true, false, not, _&&_, _||_}
 use mathlib.Core.List.{List, [], _∷_}
-use Rattle.lists.specs.Lists.{all, member}
-use Rattle.operator.specs.Op.{Op, Abstract, names}
+use Rattle.base_lists.specs.Lists.{all, member}
+use Rattle.sheet_operator.specs.Op.{Op, Abstract, names}
 
 -- none of the operators names a variable that was named before it
 abbrev pub calmFrom : (ℕ → Bool) → List Op → Bool

@@ -4,9 +4,9 @@ use mathlib.Core.Bool.{Bool, cond}
 use mathlib.Core.List.{List, [], _∷_, map}
 use lib.Dec.{eqb, ltb, leb}
 use lib.ListN.{length, getD, set}
-use Rattle.lists.specs.Lists.{build, all, sum}
-use Rattle.operator.specs.Op.{Op, line, latest, double, deal, gather}
-use Rattle.bounds.specs.Bounds.{QUEUES, ROOM}
+use Rattle.base_lists.specs.Lists.{build, all, sum}
+use Rattle.sheet_operator.specs.Op.{Op, line, latest, double, deal, gather}
+use Rattle.base_bounds.specs.Bounds.{QUEUES, ROOM}
 
 -- 8: at most ROOM for each input, and 0 for a queue that is none
 unfoldable pub feedGood : ℕ → List ℕ → Bool

@@ -1,17 +1,17 @@
 // The calm test and the worst counts, on any sheet in memory.
-use operator::Kind;
-use operator::Operator;
 use sheet::Answer;
 use sheet::Sheet;
+use sheet_operator::Kind;
+use sheet_operator::Operator;
 ghost use mathlib.Core.Path.{_≡_};
 ghost use mathlib.Core.Bool.{cond};
 ghost use mathlib.Core.List.{map};
 ghost use Prim.Native.Nat.{ℕ, _≤_, _^_};
 ghost use lib.Dec.{ltb, leb, eqb};
 ghost use lib.ListN.{getD, set, replicate};
-ghost use Rattle.lists.specs.Lists.{sum};
-ghost use Rattle.operator.specs.Memory.{PLACES, view, ways, Ready};
-ghost use Rattle.bounds.specs.Bounds.{QUEUES, ROOM};
+ghost use Rattle.base_lists.specs.Lists.{sum};
+ghost use Rattle.sheet_operator.specs.Memory.{PLACES, view, ways, Ready};
+ghost use Rattle.base_bounds.specs.Bounds.{QUEUES, ROOM};
 ghost use Rattle.sheet.specs.Answer.{accepted};
 ghost use Rattle.sheet.specs.Sheet.{viewSheet};
 ghost use Rattle.sheet.specs.Check.{checkOf};
@@ -19,9 +19,9 @@ ghost use Rattle.counts.specs.Calm.{isCalm};
 ghost use Rattle.counts.specs.Worst.{feedGood, dealWorst, dealt, worstOp, worstFrom};
 ghost use Rattle.counts.specs.Answers.{Calms, Worsts};
 
-pub const QUEUES: usize = bounds::QUEUES as usize;
+pub const QUEUES: usize = base_bounds::QUEUES as usize;
 
-pub const ROOM: u64 = bounds::ROOM as u64;
+pub const ROOM: u64 = base_bounds::ROOM as u64;
 
 pub struct Calmness {
     pub answer: Answer,
@@ -39,14 +39,14 @@ fn names_apart(t: Sheet) -> bool
     ensures { λ r. ⌜ r ≡ isCalm (viewSheet t) ⌝ }
 {
     let n = t.count as usize;
-    let mut named = [false; judge::FLAGS];
+    let mut named = [false; sheet_judge::FLAGS];
     let mut i = 0;
     while i < n {
         let o = t.operators[i];
-        if !judge::names_apart(named, o) {
+        if !sheet_judge::names_apart(named, o) {
             return false;
         }
-        let next = judge::names_flagged(named, o);
+        let next = sheet_judge::names_flagged(named, o);
         named = next;
         i += 1;
     }
@@ -107,7 +107,12 @@ fn deal_worst(n: u64, k: usize, j: usize) -> u64
     (n + (m - 1)) / m
 }
 
-fn deal_counts(w: [u64; QUEUES], n: u64, qs: [u8; operator::PLACES], k: usize) -> [u64; QUEUES]
+fn deal_counts(
+    w: [u64; QUEUES],
+    n: u64,
+    qs: [u8; sheet_operator::PLACES],
+    k: usize,
+) -> [u64; QUEUES]
     requires { ⌜ (n ≤ 2 ^ 60) × (k ≤ PLACES) ⌝ }
     ensures { λ r. ⌜ r ≡ dealt w n k 0 (ways k qs) ⌝ }
 {
@@ -123,7 +128,7 @@ fn deal_counts(w: [u64; QUEUES], n: u64, qs: [u8; operator::PLACES], k: usize) -
     r
 }
 
-fn gather_count(w: [u64; QUEUES], ps: [u8; operator::PLACES], k: usize) -> u64
+fn gather_count(w: [u64; QUEUES], ps: [u8; sheet_operator::PLACES], k: usize) -> u64
     requires { ⌜ (k ≤ PLACES) × ((q : ℕ) → getD w q 0 ≤ 2 ^ 60) ⌝ }
     ensures { λ r. ⌜ r ≡ sum (map (λ p. getD w p 0) (ways k ps)) ⌝ }
 {

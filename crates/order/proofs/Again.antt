@@ -8,12 +8,12 @@ use Prim.Native.Nat.{ℕ, _+_}
 use lib.Dec.{ltb, leb}
 use lib.ListN.{length}
 use borrow.Author.Tests.{ltb-true, leb-true}
-use Rattle.lists.specs.Lists.{all}
-use Rattle.lists.proofs.Build.{never}
-use Rattle.lists.proofs.Tests.{both}
-use Rattle.step.specs.declared.Step.{Step}
-use Rattle.operator.specs.Op.{Abstract}
-use Rattle.operator.specs.Memory.{PLACES}
+use Rattle.base_lists.specs.Lists.{all}
+use Rattle.base_lists.proofs.Build.{never}
+use Rattle.base_lists.proofs.Tests.{both}
+use Rattle.sheet_step.specs.declared.Step.{Step}
+use Rattle.sheet_operator.specs.Op.{Abstract}
+use Rattle.sheet_operator.specs.Memory.{PLACES}
 use Rattle.sheet.specs.declared.Sheet.{Sheet}
 use Rattle.sheet.specs.Answer.{Paper, accepted, refused, isAccepted}
 use Rattle.sheet.specs.Sheet.{viewSheet, memorySheet}

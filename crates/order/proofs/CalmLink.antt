@@ -8,16 +8,16 @@ use native.Mathlib.Omega.{arith}
 use lib.Dec.{ltb}
 use lib.ListN.{length, getD}
 use borrow.Author.Tests.{not-true}
-use Rattle.lists.specs.Lists.{all, member, bit}
-use Rattle.lists.proofs.Build.{build-length, build-getD, never}
-use Rattle.lists.proofs.Tests.{both, all-build, all-member}
-use Rattle.operator.specs.Op.{Op, line, latest, double, deal, gather, with, reads, defines, names}
-use Rattle.operator.specs.Memory.{view}
-use Rattle.operator.proofs.ViewLaws.{Small, small-view}
-use Rattle.judge.specs.Judge.{Known, known, after, judgeBy, whole, variablesGood, six}
-use Rattle.judge.proofs.KnownLaws.{known-with}
-use Rattle.judge.proofs.JudgedLaws.{judged-four, judged-five, judged-six, judged-seven}
-use Rattle.format.proofs.Heads.{ranges-of-good}
+use Rattle.base_lists.specs.Lists.{all, member, bit}
+use Rattle.base_lists.proofs.Build.{build-length, build-getD, never}
+use Rattle.base_lists.proofs.Tests.{both, all-build, all-member}
+use Rattle.sheet_operator.specs.Op.{Op, line, latest, double, deal, gather, with, reads, defines, names}
+use Rattle.sheet_operator.specs.Memory.{view}
+use Rattle.sheet_operator.proofs.ViewLaws.{Small, small-view}
+use Rattle.sheet_judge.specs.Judge.{Known, known, after, judgeBy, whole, variablesGood, six}
+use Rattle.sheet_judge.proofs.KnownLaws.{known-with}
+use Rattle.sheet_judge.proofs.JudgedLaws.{judged-four, judged-five, judged-six, judged-seven}
+use Rattle.sheet_format.proofs.Heads.{ranges-of-good}
 use Rattle.sheet.specs.declared.Sheet.{Sheet}
 use Rattle.sheet.specs.Answer.{accepted, isAccepted}
 use Rattle.sheet.specs.Sheet.{opAt, viewTo, viewSheet}
@@ -27,13 +27,13 @@ use Rattle.sheet.proofs.Turns.{view-more}
 use Rattle.sheet.proofs.Passed.{four-reads, four-defines, five-parts, six-below}
 use Rattle.sheet.proofs.AnswerLaws.{accepted-of}
 use Rattle.counts.specs.Calm.{calmFrom, isCalm}
-use Rattle.theory.proofs.Equations.{Kind, Ways}
-use Rattle.theory.proofs.Denote.{takesFrom}
-use Rattle.theory.proofs.Sheets.{gives}
-use Rattle.theory.proofs.Rewrites.{All, none-left, also, all-of}
-use Rattle.theory.proofs.Accept.{tot, holdsN}
-use Rattle.theory.proofs.Scan.{Passes, Scan, at-end, next, scan-acc}
-use Rattle.theory.proofs.Final.{Calm}
+use Rattle.order_theory.proofs.Equations.{Kind, Ways}
+use Rattle.order_theory.proofs.Denote.{takesFrom}
+use Rattle.order_theory.proofs.Sheets.{gives}
+use Rattle.order_theory.proofs.Rewrites.{All, none-left, also, all-of}
+use Rattle.order_theory.proofs.Accept.{tot, holdsN}
+use Rattle.order_theory.proofs.Scan.{Passes, Scan, at-end, next, scan-acc}
+use Rattle.order_theory.proofs.Final.{Calm}
 use Rattle.order.specs.Order.{calmSheet}
 use Rattle.order.proofs.Model.{kindAs, kindsAs}
 use Rattle.order.proofs.KindLaws.{bit-most, member-of-times, fresh-once, gives-times, reads-times, gives-member, takes-member, holds-member}

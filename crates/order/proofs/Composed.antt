@@ -7,21 +7,21 @@ use Prim.Native.Nat.{ℕ, _+_}
 use native.Mathlib.Omega.{arith}
 use lib.ListN.{length-map, length}
 use lib.IntN.{ℤ}
-use Rattle.lists.specs.Lists.{bit}
+use Rattle.base_lists.specs.Lists.{bit}
 use Rattle.sheet.specs.declared.Sheet.{Sheet}
 use Rattle.sheet.specs.Answer.{Paper, accepted, isAccepted}
 use Rattle.sheet.specs.Sheet.{viewSheet}
 use Rattle.sheet.specs.Check.{checkOf}
 use Rattle.sheet.proofs.AnswerLaws.{accepted-of, both-stand}
-use Rattle.operator.specs.Op.{Abstract}
-use Rattle.machine.specs.declared.State.{State}
-use Rattle.machine.specs.Machine.{Machine, Outcome, refuse, done, fireM, Ran, ranOn, runFrom, runM}
-use Rattle.machine.specs.Numbers.{decode, stateOf, storeIn, good, GoodM}
-use Rattle.machine.specs.Calls.{Call, RunCall, standsOf, unchanged, saved, savedRun, fireOf, runOf}
-use Rattle.machine.proofs.Good.{encode-of-decode}
-use Rattle.machine.proofs.Sound.{Sound, sound-of-accepted}
-use Rattle.machine.proofs.Keeps.{run-keeps}
-use Rattle.machine.proofs.RunLaws.{run-append}
+use Rattle.sheet_operator.specs.Op.{Abstract}
+use Rattle.run_machine.specs.declared.State.{State}
+use Rattle.run_machine.specs.Machine.{Machine, Outcome, refuse, done, fireM, Ran, ranOn, runFrom, runM}
+use Rattle.run_machine.specs.Numbers.{decode, stateOf, storeIn, good, GoodM}
+use Rattle.run_machine.specs.Calls.{Call, RunCall, standsOf, unchanged, saved, savedRun, fireOf, runOf}
+use Rattle.run_machine.proofs.Good.{encode-of-decode}
+use Rattle.run_machine.proofs.Sound.{Sound, sound-of-accepted}
+use Rattle.run_machine.proofs.Keeps.{run-keeps}
+use Rattle.run_machine.proofs.RunLaws.{run-append}
 use Rattle.order.specs.Firings.{Sized, GoodStart}
 use Rattle.order.specs.Sequences.{LeavesAs, Turn, firing, running, turned, firedOf, entriesOf, called, firedIn, entries}
 use Rattle.order.specs.Sequences.{Joined, RunsJoin, FiringIsRun, OneRun, SequenceIsRun, AllStand}

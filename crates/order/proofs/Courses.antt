@@ -5,8 +5,8 @@ use mathlib.Core.Bool.{true}
 use mathlib.Core.List.{List}
 use Prim.Native.Nat.{ℕ}
 use Rattle.sheet.specs.declared.Sheet.{Sheet}
-use Rattle.machine.specs.Calls.{Call, ReadyCall, runOf}
-use Rattle.machine.proofs.FreshLaws.{freshMachine}
+use Rattle.run_machine.specs.Calls.{Call, ReadyCall, runOf}
+use Rattle.run_machine.proofs.FreshLaws.{freshMachine}
 use Rattle.order.specs.Order.{calmSheet, outputs}
 use Rattle.order.specs.Demand.{filled, ended, GoodSide, variablesOf}
 use Rattle.order.specs.Sequences.{LeavesAs, called, entries, readyOn, Course, inOneRun, reached, GoodCourse, AllStand, DemandThreeOfCalls, OneRestOfCalls}

@@ -7,25 +7,25 @@ use Prim.Native.Nat.{ℕ}
 use native.Mathlib.Omega.{arith}
 use lib.ListN.{getD}
 use lib.IntN.{ℤ, pos}
-use Rattle.lists.proofs.Tests.{both}
+use Rattle.base_lists.proofs.Tests.{both}
 use Rattle.sheet.specs.declared.Sheet.{Sheet}
 use Rattle.sheet.specs.Answer.{accepted, isAccepted}
 use Rattle.sheet.specs.Sheet.{viewSheet}
 use Rattle.sheet.specs.Check.{checkOf}
 use Rattle.sheet.proofs.AnswerLaws.{accepted-of}
 use Rattle.counts.specs.Calm.{isCalm}
-use Rattle.machine.specs.Machine.{Machine, runM}
-use Rattle.machine.specs.Numbers.{GoodM}
-use Rattle.machine.specs.Calls.{Call, ReadyCall, readyOf, runOf}
-use Rattle.machine.proofs.Sound.{sound-of-accepted}
-use Rattle.machine.proofs.Keeps.{run-keeps}
-use Rattle.machine.proofs.FreshLaws.{freshMachine}
-use Rattle.theory.proofs.Model.{State}
-use Rattle.theory.proofs.Runs.{Rest, exec}
-use Rattle.theory.proofs.Orders.{fires}
-use Rattle.theory.proofs.Equations.{Kind, Whole}
-use Rattle.theory.proofs.Demand.{Counted}
-use Rattle.theory.proofs.Final.{begin}
+use Rattle.run_machine.specs.Machine.{Machine, runM}
+use Rattle.run_machine.specs.Numbers.{GoodM}
+use Rattle.run_machine.specs.Calls.{Call, ReadyCall, readyOf, runOf}
+use Rattle.run_machine.proofs.Sound.{sound-of-accepted}
+use Rattle.run_machine.proofs.Keeps.{run-keeps}
+use Rattle.run_machine.proofs.FreshLaws.{freshMachine}
+use Rattle.order_theory.proofs.Model.{State}
+use Rattle.order_theory.proofs.Runs.{Rest, exec}
+use Rattle.order_theory.proofs.Orders.{fires}
+use Rattle.order_theory.proofs.Equations.{Kind, Whole}
+use Rattle.order_theory.proofs.Demand.{Counted}
+use Rattle.order_theory.proofs.Final.{begin}
 use Rattle.order.specs.Order.{calmSheet, fed, AllTaken, given, outputs}
 use Rattle.order.specs.Demand.{Side, begun, filled, ended, GoodFeeds, GoodSide, SameFeeds, variablesOf, Agreed, DemandThree}
 use Rattle.order.proofs.Model.{TItem, kindsAs, itemsAs, stateAs}
@@ -113,11 +113,11 @@ side-done x c g =
 
 -- what a side leaves, as the theory sees it
 outputs-of : (x : Side) → calmSheet (x .sheet) ≡ true → Done x →
-    map itemsAs (outputs (x .sheet) (ended x)) ≡ Rattle.theory.proofs.Final.outputs (x .sheet .queues) (kindsIn x) (endOf x (feedOfSide x))
+    map itemsAs (outputs (x .sheet) (ended x)) ≡ Rattle.order_theory.proofs.Final.outputs (x .sheet .queues) (kindsIn x) (endOf x (feedOfSide x))
 outputs-of x c d =
     let t = x .sheet in
     ap (λ (k : Call). map itemsAs (outputs t k)) (d .left) ∙ outputs-as t (checked t c) (atEnd x) (d .good)
-    ∙ ap (Rattle.theory.proofs.Final.outputs (t .queues) (kindsIn x)) (d .state)
+    ∙ ap (Rattle.order_theory.proofs.Final.outputs (t .queues) (kindsIn x)) (d .state)
 
 variable-of : (x : Side) → Done x → (k : ℕ) → getD (atEnd x .vars) k (pos 0) ≡ endOf x (feedOfSide x) .var k
 variable-of x d k = ap (λ (u : State TItem ℤ). u .var k) (d .state)
@@ -131,7 +131,7 @@ agree x y c v gx gy same =
     let dy = side-done y (v .calm) gy in
     let feed = feedOfSide x in
     let e : feedOfSide y ≡ feed = fun-ext (λ q. ap itemsAs (sym (same q))) in
-    let r = Rattle.theory.proofs.Final.model-agrees (calm-link-of (x .sheet) c) (v .made) feed
+    let r = Rattle.order_theory.proofs.Final.model-agrees (calm-link-of (x .sheet) c) (v .made) feed
     (λ q l. ap itemsAs (given-none (x .sheet) (x .feeds) (gx .feeds .inputs) q l)) (dx .W) (dy .W) (dx .counts)
     (subst (λ (f : Whole). Counted (kindsIn y) f (dy .W)) e (dy .counts)) (x .firings) (y .firings) (dx .rest)
     (subst (λ (f : Whole). Rest (fires (kindsIn y)) (endOf y f)) e (dy .rest)) in
@@ -144,7 +144,7 @@ agree x y c v gx gy same =
       at-rest-second = dy .ready;
       items = same-lists (outputs (y .sheet) (ended y)) (outputs (x .sheet) (ended x))
           (outputs-of y (v .calm) dy
-          ∙ ap (λ (f : Whole). Rattle.theory.proofs.Final.outputs (y .sheet .queues) (kindsIn y) (endOf y f)) e
+          ∙ ap (λ (f : Whole). Rattle.order_theory.proofs.Final.outputs (y .sheet .queues) (kindsIn y) (endOf y f)) e
           ∙ r .0 ∙ sym (outputs-of x c dx));
       variables =
           ap (variablesOf (x .sheet)) (dy .left)

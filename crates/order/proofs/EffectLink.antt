@@ -13,20 +13,20 @@ use lib.Dec.{eqb, ltb}
 use lib.ListN.{length, getD}
 use lib.IntN.{ℤ, pos}
 use borrow.Author.Tests.{eq-eqb, eqb-true, eqb-false, ltb-true}
-use Rattle.lists.specs.Lists.{member}
-use Rattle.lists.proofs.Tests.{both}
-use Rattle.lists.proofs.Places.{getD-any}
-use Rattle.lists.proofs.Members.{member-at}
-use Rattle.operator.specs.Op.{Op, line, latest, double, deal, gather, reads, names}
-use Rattle.store.specs.declared.Item.{Item}
-use Rattle.effect.specs.declared.Flow.{Flow}
-use Rattle.effect.specs.Flow.{lined}
-use Rattle.effect.specs.Effect.{natOf, cursorAt, movedOn, effect, waits, inWays, cursorGood}
-use Rattle.effect.proofs.Cursors.{in-ways-below}
-use Rattle.theory.proofs.Trace.{mark}
-use Rattle.theory.proofs.Steps.{upd, lineOp}
-use Rattle.theory.proofs.Deal.{onward, dealOp, gatherOp}
-use Rattle.theory.proofs.Denote.{denote, latestOp, doubleOp}
+use Rattle.base_lists.specs.Lists.{member}
+use Rattle.base_lists.proofs.Tests.{both}
+use Rattle.base_lists.proofs.Places.{getD-any}
+use Rattle.base_lists.proofs.Members.{member-at}
+use Rattle.sheet_operator.specs.Op.{Op, line, latest, double, deal, gather, reads, names}
+use Rattle.run_store.specs.declared.Item.{Item}
+use Rattle.run_effect.specs.declared.Flow.{Flow}
+use Rattle.run_effect.specs.Flow.{lined}
+use Rattle.run_effect.specs.Effect.{natOf, cursorAt, movedOn, effect, waits, inWays, cursorGood}
+use Rattle.run_effect.proofs.Cursors.{in-ways-below}
+use Rattle.order_theory.proofs.Trace.{mark}
+use Rattle.order_theory.proofs.Steps.{upd, lineOp}
+use Rattle.order_theory.proofs.Deal.{onward, dealOp, gatherOp}
+use Rattle.order_theory.proofs.Denote.{denote, latestOp, doubleOp}
 use Rattle.order.proofs.Model.{TItem, kindAs}
 use Rattle.order.proofs.LineLink.{varsAs, set-as, Left, Known, line-as}
 

@@ -10,23 +10,23 @@ use lib.ListN.{length, getD, length-set, length-append}
 use lib.Seq.{getD-set-same, getD-set-other}
 use lib.IntN.{ℤ, pos}
 use borrow.Author.Tests.{ltb-true, eqb-true, eqb-false, eq-eqb}
-use Rattle.lists.proofs.Build.{never}
-use Rattle.lists.proofs.Tests.{both}
-use Rattle.lists.proofs.Places.{same-at}
+use Rattle.base_lists.proofs.Build.{never}
+use Rattle.base_lists.proofs.Tests.{both}
+use Rattle.base_lists.proofs.Places.{same-at}
 use Rattle.sheet.specs.declared.Sheet.{Sheet}
 use Rattle.sheet.specs.Answer.{accepted}
 use Rattle.sheet.specs.Sheet.{viewSheet}
 use Rattle.sheet.specs.Check.{checkOf}
-use Rattle.bounds.specs.Bounds.{VARIABLES, FIELDS, ROOM, QUEUES}
-use Rattle.store.specs.declared.Item.{Item}
-use Rattle.machine.specs.Machine.{Machine}
-use Rattle.machine.specs.Numbers.{GoodM}
-use Rattle.machine.specs.Calls.{Call}
-use Rattle.machine.proofs.Sound.{sound-of-accepted}
-use Rattle.machine.proofs.Keeps.{feed-keeps}
-use Rattle.machine.proofs.FreshLaws.{freshMachine, fresh-good}
-use Rattle.theory.proofs.Equations.{nought}
-use Rattle.theory.proofs.Final.{begin}
+use Rattle.base_bounds.specs.Bounds.{VARIABLES, FIELDS, ROOM, QUEUES}
+use Rattle.run_store.specs.declared.Item.{Item}
+use Rattle.run_machine.specs.Machine.{Machine}
+use Rattle.run_machine.specs.Numbers.{GoodM}
+use Rattle.run_machine.specs.Calls.{Call}
+use Rattle.run_machine.proofs.Sound.{sound-of-accepted}
+use Rattle.run_machine.proofs.Keeps.{feed-keeps}
+use Rattle.run_machine.proofs.FreshLaws.{freshMachine, fresh-good}
+use Rattle.order_theory.proofs.Equations.{nought}
+use Rattle.order_theory.proofs.Final.{begin}
 use Rattle.order.specs.Order.{Feed, fed, AllTaken, given, toInputs, wideFeeds}
 use Rattle.order.proofs.Model.{itemsAs, stateAs}
 use Rattle.order.proofs.Held.{held, fedTo, held-feed, feed-held}

@@ -10,25 +10,25 @@ use native.Mathlib.Omega.{arith}
 use lib.Dec.{eqb, ltb}
 use lib.ListN.{length, getD, set, length-set, length-map, List·getD-map, List·getD-eq-default}
 use lib.IntN.{ℤ}
-use Rattle.lists.specs.Lists.{all, member, times}
-use Rattle.lists.proofs.Build.{order}
-use Rattle.lists.proofs.Tests.{all-getD}
-use Rattle.lists.proofs.Members.{all-below}
-use Rattle.lists.proofs.Places.{getD-any}
-use Rattle.operator.specs.Op.{Op, double, Abstract, reads, names}
-use Rattle.store.specs.declared.Item.{Item}
-use Rattle.bounds.specs.Bounds.{QUEUES, ROOM}
-use Rattle.effect.specs.Effect.{effect, waits, cursorGood}
-use Rattle.effect.proofs.EffectLaws.{effect-puts-below, effect-puts-once}
-use Rattle.machine.specs.Machine.{Machine, Outcome, refuse, done, full, putAll, commit, fireFrom, fireOp, fireFirst, fireM}
-use Rattle.machine.specs.Numbers.{GoodM}
-use Rattle.machine.proofs.Sound.{opIn, Sound}
-use Rattle.theory.proofs.Model.{State, push, pop, room, after, pass, gate, step}
-use Rattle.theory.proofs.Trace.{mark}
-use Rattle.theory.proofs.Equations.{Kind}
-use Rattle.theory.proofs.Denote.{denote, takesFrom}
-use Rattle.theory.proofs.Sheets.{blank, find, opAt, op-at}
-use Rattle.theory.proofs.Orders.{fires}
+use Rattle.base_lists.specs.Lists.{all, member, times}
+use Rattle.base_lists.proofs.Build.{order}
+use Rattle.base_lists.proofs.Tests.{all-getD}
+use Rattle.base_lists.proofs.Members.{all-below}
+use Rattle.base_lists.proofs.Places.{getD-any}
+use Rattle.sheet_operator.specs.Op.{Op, double, Abstract, reads, names}
+use Rattle.run_store.specs.declared.Item.{Item}
+use Rattle.base_bounds.specs.Bounds.{QUEUES, ROOM}
+use Rattle.run_effect.specs.Effect.{effect, waits, cursorGood}
+use Rattle.run_effect.proofs.EffectLaws.{effect-puts-below, effect-puts-once}
+use Rattle.run_machine.specs.Machine.{Machine, Outcome, refuse, done, full, putAll, commit, fireFrom, fireOp, fireFirst, fireM}
+use Rattle.run_machine.specs.Numbers.{GoodM}
+use Rattle.run_machine.proofs.Sound.{opIn, Sound}
+use Rattle.order_theory.proofs.Model.{State, push, pop, room, after, pass, gate, step}
+use Rattle.order_theory.proofs.Trace.{mark}
+use Rattle.order_theory.proofs.Equations.{Kind}
+use Rattle.order_theory.proofs.Denote.{denote, takesFrom}
+use Rattle.order_theory.proofs.Sheets.{blank, find, opAt, op-at}
+use Rattle.order_theory.proofs.Orders.{fires}
 use Rattle.order.proofs.Model.{TItem, kindAs, kindsAs, itemsAs, stateAs}
 use Rattle.order.proofs.LineLink.{varsAs, Known}
 use Rattle.order.proofs.KindLaws.{takes-member}
@@ -77,8 +77,8 @@ module _ (o : Op) (m : Machine) (r : Ready o m) (q : ℕ) where
           ∙ sym (puts-at (set (m .queues) q xs) (e .puts) (e .item) k (r .once x) (rw (length-set (m .queues) q xs, r .many) (r .below x)))
 
   fire-op : member q (reads o) ≡ true →
-      Rattle.theory.proofs.Model.fireOp ROOM QUEUES (denote (kindAs o)) q (stateAs m) ≡ outcomeAs (fireOp o m q)
-  unfolding Rattle.theory.proofs.Model.fireOp fireFrom commit
+      Rattle.order_theory.proofs.Model.fireOp ROOM QUEUES (denote (kindAs o)) q (stateAs m) ≡ outcomeAs (fireOp o m q)
+  unfolding Rattle.order_theory.proofs.Model.fireOp fireFrom commit
   fire-op h =
       ap (λ (b : Bool). gate ROOM QUEUES b (head? (itemsAs (getD (m .queues) q []))) (denote (kindAs o)) q (stateAs m))
       (waits-as o q (m .vars) h (r .cursor))

@@ -5,17 +5,17 @@ use mathlib.Core.List.{List, [], _∷_, _++_, map, map-append}
 use Prim.Native.Nat.{ℕ, pred, _+_, _-_, _≤_}
 use native.Mathlib.Omega.{arith}
 use lib.ListN.{length, set, take, drop, length-append, length-map}
-use Rattle.lists.specs.Lists.{all}
-use Rattle.lists.proofs.Tests.{both-of, all-append}
-use Rattle.step.specs.Step.{stepVariable, stepPlaces}
-use Rattle.step.specs.declared.Step.{Step}
-use Rattle.operator.specs.Op.{Op, line, latest, double, deal, gather, Abstract}
-use Rattle.operator.specs.Memory.{PLACES}
-use Rattle.judge.specs.Judge.{seven}
+use Rattle.base_lists.specs.Lists.{all}
+use Rattle.base_lists.proofs.Tests.{both-of, all-append}
+use Rattle.sheet_step.specs.Step.{stepVariable, stepPlaces}
+use Rattle.sheet_step.specs.declared.Step.{Step}
+use Rattle.sheet_operator.specs.Op.{Op, line, latest, double, deal, gather, Abstract}
+use Rattle.sheet_operator.specs.Memory.{PLACES}
+use Rattle.sheet_judge.specs.Judge.{seven}
 use Rattle.rewrite_rules.specs.Rewrite.{inOf, outOf, stepsOf, at, nextOf, fallen, lowered, fused}
-use Rattle.theory.proofs.Equations.{Kind, ren}
-use Rattle.theory.proofs.Rewrites.{All, none-left, also, all-join, down}
-use Rattle.theory.proofs.Final.{Made, as-is, made}
+use Rattle.order_theory.proofs.Equations.{Kind, ren}
+use Rattle.order_theory.proofs.Rewrites.{All, none-left, also, all-join, down}
+use Rattle.order_theory.proofs.Final.{Made, as-is, made}
 use Rattle.order.proofs.Model.{TStep, stepAs, kindAs}
 use Rattle.order.proofs.GoodSheets.{GoodOp, GoodSheet, Next, over}
 use Rattle.order.proofs.TwoLines.{TwoLines, set-drop}
@@ -57,11 +57,11 @@ module _ (a : Abstract) (p m o : ℕ) (ss ts : List Step) (pre mid post : List O
 
   abbrev bareKinds : List Kind
   bareKinds =
-      Rattle.theory.proofs.FuseAcc.bare (a .inputs) (a .queues) p m o (map stepAs ss) (map stepAs ts) (map kindAs pre) (map kindAs mid) (map kindAs post)
+      Rattle.order_theory.proofs.FuseAcc.bare (a .inputs) (a .queues) p m o (map stepAs ss) (map stepAs ts) (map kindAs pre) (map kindAs mid) (map kindAs post)
 
   bare-kinds : bareKinds ≡ map kindAs bare
   bare-kinds =
-      ap₂ (λ (l : List TStep) (r : List Kind). map kindAs pre ++ (Rattle.theory.proofs.Equations.line p o l ∷ r)) (sym (map-append stepAs ss ts))
+      ap₂ (λ (l : List TStep) (r : List Kind). map kindAs pre ++ (Rattle.order_theory.proofs.Equations.line p o l ∷ r)) (sym (map-append stepAs ss ts))
       (sym (map-append kindAs mid post))
       ∙ sym (map-append kindAs pre (line p o (ss ++ ts) ∷ (mid ++ post)))
 
@@ -83,7 +83,7 @@ module _ (a : Abstract) (p m o : ℕ) (ss ts : List Step) (pre mid post : List O
     fused-made {I} {Q} {v} {ops} x =
         let q : pred (a .queues) ≡ a .queues - 1 = omega arith in
         subst₂ (λ (n : ℕ) (l : List Kind). Made I Q v ops n (a .variables) l) q new-kinds
-        (Rattle.theory.proofs.Final.fused p m o (map stepAs ss) (map stepAs ts) (map kindAs pre) (map kindAs mid) (map kindAs post)
+        (Rattle.order_theory.proofs.Final.fused p m o (map stepAs ss) (map stepAs ts) (map kindAs pre) (map kindAs mid) (map kindAs post)
         (pair-made a p m o ss ts pre mid post x))
 
     module _ (room : length ss + length ts ≤ PLACES) where

@@ -10,29 +10,29 @@ use lib.Dec.{ltb, leb}
 use lib.ListN.{length, take, drop}
 use lib.Seq.{split-at}
 use borrow.Author.Tests.{lt-ltb, le-ltb, le-leb}
-use Rattle.lists.specs.Lists.{all, any, member, fresh, bit}
-use Rattle.lists.proofs.Build.{order, never}
-use Rattle.lists.proofs.Tests.{both-of, all-build-of}
-use Rattle.lists.proofs.Members.{all-of-members}
-use Rattle.lists.proofs.Bits.{bit-false, bit-or, bit-one}
-use Rattle.lists.proofs.Times.{times-member}
-use Rattle.operator.specs.Op.{Op, line, latest, double, deal, gather, Abstract, reads, defines, names, cursors}
-use Rattle.operator.proofs.ViewLaws.{Small}
-use Rattle.judge.specs.Judge.{Known, known, knownOf, judgeBy, judge, whole, four, five, six, variablesGood}
-use Rattle.format.specs.Head.{headGood}
-use Rattle.bounds.specs.Bounds.{OPERATORS, VARIABLES, QUEUES, INPUTS}
-use Rattle.format.proofs.Heads.{HeadRanges}
+use Rattle.base_lists.specs.Lists.{all, any, member, fresh, bit}
+use Rattle.base_lists.proofs.Build.{order, never}
+use Rattle.base_lists.proofs.Tests.{both-of, all-build-of}
+use Rattle.base_lists.proofs.Members.{all-of-members}
+use Rattle.base_lists.proofs.Bits.{bit-false, bit-or, bit-one}
+use Rattle.base_lists.proofs.Times.{times-member}
+use Rattle.sheet_operator.specs.Op.{Op, line, latest, double, deal, gather, Abstract, reads, defines, names, cursors}
+use Rattle.sheet_operator.proofs.ViewLaws.{Small}
+use Rattle.sheet_judge.specs.Judge.{Known, known, knownOf, judgeBy, judge, whole, four, five, six, variablesGood}
+use Rattle.sheet_format.specs.Head.{headGood}
+use Rattle.base_bounds.specs.Bounds.{OPERATORS, VARIABLES, QUEUES, INPUTS}
+use Rattle.sheet_format.proofs.Heads.{HeadRanges}
 use Rattle.sheet.specs.Answer.{accepted}
 use Rattle.sheet.specs.Sheet.{viewSheet, memorySheet}
 use Rattle.sheet.specs.Check.{checkOf}
 use Rattle.sheet.proofs.Accepted.{facts-accepted}
 use Rattle.sheet.proofs.Placed.{nth, cutTo, view-back, accepted-placed}
 use Rattle.counts.specs.Calm.{calmFrom, isCalm}
-use Rattle.theory.proofs.Equations.{Kind}
-use Rattle.theory.proofs.Rewrites.{all-at}
-use Rattle.theory.proofs.Accept.{tot, tot-append, givesN, readsN, holdsN, Ord, ord-head}
-use Rattle.theory.proofs.FuseAcc.{ord-right}
-use Rattle.theory.proofs.Final.{Calm}
+use Rattle.order_theory.proofs.Equations.{Kind}
+use Rattle.order_theory.proofs.Rewrites.{all-at}
+use Rattle.order_theory.proofs.Accept.{tot, tot-append, givesN, readsN, holdsN, Ord, ord-head}
+use Rattle.order_theory.proofs.FuseAcc.{ord-right}
+use Rattle.order_theory.proofs.Final.{Calm}
 use Rattle.order.proofs.Model.{kindAs}
 use Rattle.order.proofs.KindLaws.{member-of-times, once-fresh, gives-times, reads-times, holds-member}
 use Rattle.order.proofs.GoodSheets.{GoodOp, GoodSheet}

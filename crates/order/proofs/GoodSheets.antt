@@ -5,14 +5,14 @@ use mathlib.Core.Bool.{true}
 use Prim.Native.Nat.{ℕ}
 use mathlib.Core.List.{List}
 use lib.ListN.{length}
-use Rattle.step.specs.declared.Step.{Step}
-use Rattle.operator.specs.Op.{Op, line, Abstract}
-use Rattle.operator.proofs.ViewLaws.{Small}
-use Rattle.judge.specs.Judge.{variablesGood, seven}
-use Rattle.format.proofs.Heads.{HeadRanges}
-use Rattle.theory.proofs.Rewrites.{All}
-use Rattle.theory.proofs.Equations.{Kind}
-use Rattle.theory.proofs.Final.{Made, Calm}
+use Rattle.sheet_step.specs.declared.Step.{Step}
+use Rattle.sheet_operator.specs.Op.{Op, line, Abstract}
+use Rattle.sheet_operator.proofs.ViewLaws.{Small}
+use Rattle.sheet_judge.specs.Judge.{variablesGood, seven}
+use Rattle.sheet_format.proofs.Heads.{HeadRanges}
+use Rattle.order_theory.proofs.Rewrites.{All}
+use Rattle.order_theory.proofs.Equations.{Kind}
+use Rattle.order_theory.proofs.Final.{Made, Calm}
 use Rattle.order.proofs.Model.{kindsAs}
 
 -- an operator's own places: its sizes, its variables and its steps

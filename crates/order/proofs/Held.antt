@@ -8,22 +8,22 @@ use lib.Dec.{eqb}
 use lib.ListN.{length, getD, set, replicate}
 use lib.IntN.{ℤ, pos}
 use borrow.Author.Tests.{lt-ltb, lt-leb}
-use Rattle.lists.proofs.Tests.{neither-of}
+use Rattle.base_lists.proofs.Tests.{neither-of}
 use Rattle.sheet.specs.declared.Sheet.{Sheet}
 use Rattle.sheet.specs.Answer.{Paper, accepted, refused, isAccepted}
 use Rattle.sheet.specs.Sheet.{viewSheet}
 use Rattle.sheet.specs.Check.{checkOf}
 use Rattle.sheet.proofs.AnswerLaws.{none-apart}
-use Rattle.store.specs.Store.{STORE}
-use Rattle.bounds.specs.Bounds.{ROOM}
-use Rattle.store.specs.declared.Item.{Item}
-use Rattle.machine.specs.declared.State.{State}
-use Rattle.machine.specs.Machine.{Machine, Outcome, refuse, done, full, feedM, fireM, runM}
-use Rattle.machine.specs.Ready.{readySet}
-use Rattle.machine.specs.Numbers.{stateOf, storeIn, good, GoodM}
-use Rattle.machine.specs.Calls.{Call, standsOf, unchanged, saved, savedRun, feedOf, fireOf, RunCall, runOf, readyCall, readyOf, freshState, freshOf}
-use Rattle.machine.proofs.Good.{decode-of-encode, good-of-machine}
-use Rattle.machine.proofs.FreshLaws.{freshMachine, fresh-numbers}
+use Rattle.run_store.specs.Store.{STORE}
+use Rattle.base_bounds.specs.Bounds.{ROOM}
+use Rattle.run_store.specs.declared.Item.{Item}
+use Rattle.run_machine.specs.declared.State.{State}
+use Rattle.run_machine.specs.Machine.{Machine, Outcome, refuse, done, full, feedM, fireM, runM}
+use Rattle.run_machine.specs.Ready.{readySet}
+use Rattle.run_machine.specs.Numbers.{stateOf, storeIn, good, GoodM}
+use Rattle.run_machine.specs.Calls.{Call, standsOf, unchanged, saved, savedRun, feedOf, fireOf, RunCall, runOf, readyCall, readyOf, freshState, freshOf}
+use Rattle.run_machine.proofs.Good.{decode-of-encode, good-of-machine}
+use Rattle.run_machine.proofs.FreshLaws.{freshMachine, fresh-numbers}
 
 -- an accepted call that leaves a machine's numbers
 abbrev pub held : Machine → Call

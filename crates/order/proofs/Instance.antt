@@ -2,22 +2,22 @@
 -- Assumes nothing.
 use mathlib.Core.Path.{_≡_, refl}
 use mathlib.Core.Bool.{true}
-use Rattle.step.specs.Step.{stepNames, stepVariable, unusedZ, fieldPlace, stepPlaces, blank}
-use Rattle.operator.specs.Memory.{tidyAs, memoryNumber, vacant}
-use Rattle.judge.specs.Judge.{four, five, six, seven, judgeBy, whole}
-use Rattle.format.specs.Head.{headGood}
+use Rattle.sheet_step.specs.Step.{stepNames, stepVariable, unusedZ, fieldPlace, stepPlaces, blank}
+use Rattle.sheet_operator.specs.Memory.{tidyAs, memoryNumber, vacant}
+use Rattle.sheet_judge.specs.Judge.{four, five, six, seven, judgeBy, whole}
+use Rattle.sheet_format.specs.Head.{headGood}
 use Rattle.sheet.specs.Check.{checkFrom, ending, checkOf}
 use Rattle.counts.specs.Worst.{feedGood}
 use Rattle.counts.specs.Answers.{worstOf}
-use Rattle.store.specs.Store.{part, withPart, fields, firstOf}
-use Rattle.store.specs.Queues.{encodeItems, queuePart, storeOf, itemsOf, queuesOf}
-use Rattle.store.specs.Quiet.{quietQueue, quietFrom}
-use Rattle.effect.specs.Flow.{does, stepped}
-use Rattle.effect.specs.Effect.{effect, waits, cursorGood}
-use Rattle.machine.specs.Machine.{commit, fireFrom, fireFirst, feedM, runFrom}
-use Rattle.machine.specs.Ready.{readySet}
-use Rattle.machine.specs.Numbers.{good}
-use Rattle.machine.specs.Calls.{freshOf, feedOf, fireOf, runOf, readyOf}
+use Rattle.run_store.specs.Store.{part, withPart, fields, firstOf}
+use Rattle.run_store.specs.Queues.{encodeItems, queuePart, storeOf, itemsOf, queuesOf}
+use Rattle.run_store.specs.Quiet.{quietQueue, quietFrom}
+use Rattle.run_effect.specs.Flow.{does, stepped}
+use Rattle.run_effect.specs.Effect.{effect, waits, cursorGood}
+use Rattle.run_machine.specs.Machine.{commit, fireFrom, fireFirst, feedM, runFrom}
+use Rattle.run_machine.specs.Ready.{readySet}
+use Rattle.run_machine.specs.Numbers.{good}
+use Rattle.run_machine.specs.Calls.{freshOf, feedOf, fireOf, runOf, readyOf}
 use Rattle.rewrite_rules.specs.Rewrite.{split, reorder}
 use Rattle.rewriter.specs.Calls.{splitOf, reorderOf}
 use Rattle.order.specs.Order.{calmSheet, Made, as-is, splitted, reordered}

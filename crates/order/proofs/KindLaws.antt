@@ -7,19 +7,19 @@ use Prim.Native.Nat.{ℕ, _+_, _≤_}
 use native.Mathlib.Omega.{arith}
 use lib.Dec.{eqb}
 use borrow.Author.Tests.{eq-eqb}
-use Rattle.lists.specs.Lists.{member, fresh, chain, bit, times}
-use Rattle.lists.proofs.Tests.{both-of, member-append}
-use Rattle.lists.proofs.Times.{member-times, fresh-apart, fresh-times}
-use Rattle.step.specs.Step.{rowOf, stepNames}
-use Rattle.step.specs.declared.Func.{Func}
-use Rattle.step.specs.declared.Func.the-variants.{None, Keep, Add, Copy, Count, Stamp}
-use Rattle.step.specs.declared.Step.{Step}
-use Rattle.operator.specs.Op.{Op, line, latest, double, deal, gather, reads, defines, names}
-use Rattle.theory.proofs.Steps.{named, lineOp}
-use Rattle.theory.proofs.Deal.{dealOp, gatherOp}
-use Rattle.theory.proofs.Denote.{denote, takesFrom, latestOp, doubleOp}
-use Rattle.theory.proofs.Sheets.{gives, holds}
-use Rattle.theory.proofs.Accept.{givesN, readsN}
+use Rattle.base_lists.specs.Lists.{member, fresh, chain, bit, times}
+use Rattle.base_lists.proofs.Tests.{both-of, member-append}
+use Rattle.base_lists.proofs.Times.{member-times, fresh-apart, fresh-times}
+use Rattle.sheet_step.specs.Step.{rowOf, stepNames}
+use Rattle.sheet_step.specs.declared.Func.{Func}
+use Rattle.sheet_step.specs.declared.Func.the-variants.{None, Keep, Add, Copy, Count, Stamp}
+use Rattle.sheet_step.specs.declared.Step.{Step}
+use Rattle.sheet_operator.specs.Op.{Op, line, latest, double, deal, gather, reads, defines, names}
+use Rattle.order_theory.proofs.Steps.{named, lineOp}
+use Rattle.order_theory.proofs.Deal.{dealOp, gatherOp}
+use Rattle.order_theory.proofs.Denote.{denote, takesFrom, latestOp, doubleOp}
+use Rattle.order_theory.proofs.Sheets.{gives, holds}
+use Rattle.order_theory.proofs.Accept.{givesN, readsN}
 use Rattle.order.proofs.Model.{stepBy, stepAs, kindAs}
 
 -- how often a queue stands in a list
@@ -106,8 +106,8 @@ named-step : (s : Step) (k : ℕ) → named (stepAs s) k ≡ member k (stepNames
 unfolding stepNames
 named-step s k = named-by (s .func) s k
 
-pub steps-named : (ss : List Step) (k : ℕ) → Rattle.theory.proofs.Steps.names (map stepAs ss) k ≡ member k (chain stepNames ss)
-unfolding Rattle.theory.proofs.Steps.names
+pub steps-named : (ss : List Step) (k : ℕ) → Rattle.order_theory.proofs.Steps.names (map stepAs ss) k ≡ member k (chain stepNames ss)
+unfolding Rattle.order_theory.proofs.Steps.names
 steps-named [] k = refl
 steps-named (s ∷ ss) k =
     rw (member-append k (stepNames s) (chain stepNames ss), named-step s k, steps-named ss k)

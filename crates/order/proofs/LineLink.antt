@@ -11,20 +11,20 @@ use lib.ListN.{length, getD, set}
 use lib.Seq.{getD-set-same, getD-set-other, set-getD}
 use lib.IntN.{ℤ, pos}
 use borrow.Author.Tests.{eq-eqb, ne-eqb, ltb-true}
-use Rattle.number.specs.Number.{between}
-use Rattle.lists.specs.Lists.{all, chain}
-use Rattle.lists.proofs.Build.{same-or}
-use Rattle.lists.proofs.Tests.{both, all-append}
-use Rattle.step.specs.Step.{rowOf, stepNames}
-use Rattle.step.specs.declared.Func.{Func}
-use Rattle.step.specs.declared.Func.the-variants.{None, Keep, Add, Copy, Count, Stamp}
-use Rattle.step.specs.declared.Step.{Step}
-use Rattle.store.specs.declared.Item.{Item}
-use Rattle.effect.specs.declared.Flow.{Flow}
-use Rattle.effect.specs.Flow.{fieldOf, varOf, countOf, dropped, does, stepped, lined}
-use Rattle.effect.proofs.FlowLaws.{lined-vars-length}
-use Rattle.theory.proofs.Trace.{mark}
-use Rattle.theory.proofs.Steps.{upd, one, then, runs, plus, tick}
+use Rattle.base_number.specs.Number.{between}
+use Rattle.base_lists.specs.Lists.{all, chain}
+use Rattle.base_lists.proofs.Build.{same-or}
+use Rattle.base_lists.proofs.Tests.{both, all-append}
+use Rattle.sheet_step.specs.Step.{rowOf, stepNames}
+use Rattle.sheet_step.specs.declared.Func.{Func}
+use Rattle.sheet_step.specs.declared.Func.the-variants.{None, Keep, Add, Copy, Count, Stamp}
+use Rattle.sheet_step.specs.declared.Step.{Step}
+use Rattle.run_store.specs.declared.Item.{Item}
+use Rattle.run_effect.specs.declared.Flow.{Flow}
+use Rattle.run_effect.specs.Flow.{fieldOf, varOf, countOf, dropped, does, stepped, lined}
+use Rattle.run_effect.proofs.FlowLaws.{lined-vars-length}
+use Rattle.order_theory.proofs.Trace.{mark}
+use Rattle.order_theory.proofs.Steps.{upd, one, then, runs, plus, tick}
 use Rattle.order.proofs.Model.{TItem, stepBy, stepAs}
 
 abbrev pub varsAs : List ℤ → ℕ → ℤ

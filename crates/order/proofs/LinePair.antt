@@ -3,12 +3,12 @@
 use mathlib.Core.Path.{_≡_, ap, _∙_, subst}
 use mathlib.Core.List.{List, _∷_, _++_, map, map-append}
 use Prim.Native.Nat.{ℕ}
-use Rattle.step.specs.declared.Step.{Step}
-use Rattle.operator.specs.Op.{Op, line, Abstract}
-use Rattle.theory.proofs.Equations.{Kind}
-use Rattle.theory.proofs.Rewrites.{All, first, rest, all-left, all-right}
-use Rattle.theory.proofs.FuseAcc.{old}
-use Rattle.theory.proofs.Final.{Made}
+use Rattle.sheet_step.specs.declared.Step.{Step}
+use Rattle.sheet_operator.specs.Op.{Op, line, Abstract}
+use Rattle.order_theory.proofs.Equations.{Kind}
+use Rattle.order_theory.proofs.Rewrites.{All, first, rest, all-left, all-right}
+use Rattle.order_theory.proofs.FuseAcc.{old}
+use Rattle.order_theory.proofs.Final.{Made}
 use Rattle.order.proofs.Model.{stepAs, kindAs}
 use Rattle.order.proofs.GoodSheets.{GoodOp, GoodSheet, over}
 

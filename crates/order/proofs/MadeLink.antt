@@ -2,8 +2,8 @@
 -- Assumes nothing.
 use mathlib.Core.Path.{_≡_, refl, ap, sym, _∙_, subst}
 use mathlib.Core.Bool.{true}
-use Rattle.lists.proofs.Tests.{both-of}
-use Rattle.operator.specs.Op.{Abstract}
+use Rattle.base_lists.proofs.Tests.{both-of}
+use Rattle.sheet_operator.specs.Op.{Abstract}
 use Rattle.sheet.specs.declared.Sheet.{Sheet}
 use Rattle.sheet.specs.Answer.{isAccepted}
 use Rattle.sheet.specs.Sheet.{viewSheet, memorySheet}
@@ -17,7 +17,7 @@ use Rattle.order.proofs.Again.{Rewrote, fuse-rewrote, split-rewrote, re
 
 pub record MadeAs (s t : Sheet) : Type 0 where
   pub made :
-      Rattle.theory.proofs.Final.Made (s .inputs) (s .queues) (s .variables) (kindsAs (viewSheet s)) (t .queues) (t .variables)
+      Rattle.order_theory.proofs.Final.Made (s .inputs) (s .queues) (s .variables) (kindsAs (viewSheet s)) (t .queues) (t .variables)
       (kindsAs (viewSheet t))
   pub calm : calmSheet t ≡ true
   pub inputs : t .inputs ≡ s .inputs
@@ -31,14 +31,14 @@ made-more s t b u m r =
       made =
           subst
           (λ (x : Abstract).
-          Rattle.theory.proofs.Final.Made (s .inputs) (s .queues) (s .variables) (kindsAs (viewSheet s)) (b .queues) (b .variables) (kindsAs x))
+          Rattle.order_theory.proofs.Final.Made (s .inputs) (s .queues) (s .variables) (kindsAs (viewSheet s)) (b .queues) (b .variables) (kindsAs x))
           (sym (i .back)) (r .next .made (m .made));
       calm = both-of (isAccepted (checkOf (memorySheet b))) (isCalm (viewSheet (memorySheet b))) (ap isAccepted (i .accepted)) (i .calm);
       inputs = r .next .inputs ∙ m .inputs;
     })
 
 pub made-link : (s : Sheet) {t : Sheet} → calmSheet s ≡ true → Made s t → MadeAs s t
-made-link s h as-is = record { made = Rattle.theory.proofs.Final.as-is; calm = h; inputs = refl }
+made-link s h as-is = record { made = Rattle.order_theory.proofs.Final.as-is; calm = h; inputs = refl }
 made-link s h (fused {t} m i e) = made-more s t _ (fuseOf t i .sheet) (made-link s h m) (fuse-rewrote t i e)
 made-link s h (splitted {t} m i k e) = made-more s t _ (splitOf t i k .sheet) (made-link s h m) (split-rewrote t i k e)
 made-link s h (reordered {t} m i e) = made-more s t _ (reorderOf t i .sheet) (made-link s h m) (reorder-rewrote t i e)

@@ -10,17 +10,17 @@ use lib.Dec.{eqb}
 use lib.ListN.{length, getD, set, length-append}
 use lib.IntN.{ℤ}
 use borrow.Author.Tests.{eq-eqb}
-use Rattle.lists.specs.Lists.{member, sum}
-use Rattle.lists.proofs.Tests.{all-getD, or-right}
-use Rattle.operator.specs.Op.{Op, line, latest, double, deal, gather, Abstract, reads}
-use Rattle.store.specs.declared.Item.{Item}
-use Rattle.effect.specs.Flow.{lined}
-use Rattle.effect.specs.Effect.{Result, effect, cursorGood}
-use Rattle.effect.proofs.EffectLaws.{effect-puts-defined}
-use Rattle.machine.specs.Machine.{Machine, done, putAll, fireM}
-use Rattle.machine.specs.Numbers.{GoodM}
-use Rattle.machine.proofs.Sound.{opIn}
-use Rattle.machine.proofs.Firing.{fire-takes-one}
+use Rattle.base_lists.specs.Lists.{member, sum}
+use Rattle.base_lists.proofs.Tests.{all-getD, or-right}
+use Rattle.sheet_operator.specs.Op.{Op, line, latest, double, deal, gather, Abstract, reads}
+use Rattle.run_store.specs.declared.Item.{Item}
+use Rattle.run_effect.specs.Flow.{lined}
+use Rattle.run_effect.specs.Effect.{Result, effect, cursorGood}
+use Rattle.run_effect.proofs.EffectLaws.{effect-puts-defined}
+use Rattle.run_machine.specs.Machine.{Machine, done, putAll, fireM}
+use Rattle.run_machine.specs.Numbers.{GoodM}
+use Rattle.run_machine.proofs.Sound.{opIn}
+use Rattle.run_machine.proofs.Firing.{fire-takes-one}
 use Rattle.order.proofs.Readers.{Onward}
 
 -- an item on a queue weighs 3 to the number of operators behind its reader, and nothing where no operator reads it

@@ -4,21 +4,21 @@ use Prim.Native.Nat.{ℕ}
 use mathlib.Core.List.{List, [], _∷_, map}
 use lib.ListN.{getD}
 use lib.IntN.{ℤ, pos}
-use Rattle.step.specs.declared.Func.{Func}
-use Rattle.step.specs.declared.Func.the-variants.{None, Keep, Add, Copy, Count, Stamp}
-use Rattle.step.specs.declared.Step.{Step}
-use Rattle.operator.specs.Op.{Op, line, latest, double, deal, gather, Abstract}
-use Rattle.store.specs.declared.Item.{Item}
-use Rattle.machine.specs.Machine.{Machine}
-use Rattle.theory.proofs.Model.{State}
-use Rattle.theory.proofs.Steps.{keep, add, copy, count, stamp}
-use Rattle.theory.proofs.Equations.{Kind}
+use Rattle.sheet_step.specs.declared.Func.{Func}
+use Rattle.sheet_step.specs.declared.Func.the-variants.{None, Keep, Add, Copy, Count, Stamp}
+use Rattle.sheet_step.specs.declared.Step.{Step}
+use Rattle.sheet_operator.specs.Op.{Op, line, latest, double, deal, gather, Abstract}
+use Rattle.run_store.specs.declared.Item.{Item}
+use Rattle.run_machine.specs.Machine.{Machine}
+use Rattle.order_theory.proofs.Model.{State}
+use Rattle.order_theory.proofs.Steps.{keep, add, copy, count, stamp}
+use Rattle.order_theory.proofs.Equations.{Kind}
 
 abbrev pub TItem : Type 0
 TItem = List ℤ
 
 abbrev pub TStep : Type 0
-TStep = Rattle.theory.proofs.Steps.Step
+TStep = Rattle.order_theory.proofs.Steps.Step
 
 -- an accepted sheet has no step without a function: what stands for one does not matter
 abbrev pub stepBy : Func → Step → TStep
@@ -33,11 +33,11 @@ abbrev pub stepAs : Step → TStep
 stepAs s = stepBy (s .func) s
 
 abbrev pub kindAs : Op → Kind
-kindAs (line p q ss) = Rattle.theory.proofs.Equations.line p q (map stepAs ss)
-kindAs (latest p v f) = Rattle.theory.proofs.Equations.latest p v f
-kindAs (double p q r) = Rattle.theory.proofs.Equations.double p q r
-kindAs (deal c p qs) = Rattle.theory.proofs.Equations.deal c p qs
-kindAs (gather c q ps) = Rattle.theory.proofs.Equations.gather c q ps
+kindAs (line p q ss) = Rattle.order_theory.proofs.Equations.line p q (map stepAs ss)
+kindAs (latest p v f) = Rattle.order_theory.proofs.Equations.latest p v f
+kindAs (double p q r) = Rattle.order_theory.proofs.Equations.double p q r
+kindAs (deal c p qs) = Rattle.order_theory.proofs.Equations.deal c p qs
+kindAs (gather c q ps) = Rattle.order_theory.proofs.Equations.gather c q ps
 
 abbrev pub kindsAs : Abstract → List Kind
 kindsAs a = map kindAs (a .ops)

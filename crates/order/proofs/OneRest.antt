@@ -5,22 +5,22 @@ use mathlib.Core.Bool.{true}
 use mathlib.Core.List.{List}
 use Prim.Native.Nat.{ℕ}
 use lib.IntN.{ℤ}
-use Rattle.lists.proofs.Tests.{both}
-use Rattle.operator.specs.Op.{Abstract}
+use Rattle.base_lists.proofs.Tests.{both}
+use Rattle.sheet_operator.specs.Op.{Abstract}
 use Rattle.sheet.specs.declared.Sheet.{Sheet}
 use Rattle.sheet.specs.Answer.{accepted, isAccepted}
 use Rattle.sheet.specs.Sheet.{viewSheet}
 use Rattle.sheet.specs.Check.{checkOf}
 use Rattle.counts.specs.Calm.{isCalm}
-use Rattle.machine.specs.declared.State.{State}
-use Rattle.machine.specs.Machine.{Machine, runM}
-use Rattle.machine.specs.Ready.{readySet}
-use Rattle.machine.specs.Numbers.{decode, GoodM}
-use Rattle.machine.specs.Calls.{RunCall, ReadyCall}
-use Rattle.machine.proofs.Keeps.{run-keeps}
-use Rattle.machine.proofs.Sound.{Sound}
-use Rattle.theory.proofs.Runs.{Rest, exec}
-use Rattle.theory.proofs.Orders.{Calm, fires, one-rest}
+use Rattle.run_machine.specs.declared.State.{State}
+use Rattle.run_machine.specs.Machine.{Machine, runM}
+use Rattle.run_machine.specs.Ready.{readySet}
+use Rattle.run_machine.specs.Numbers.{decode, GoodM}
+use Rattle.run_machine.specs.Calls.{RunCall, ReadyCall}
+use Rattle.run_machine.proofs.Keeps.{run-keeps}
+use Rattle.run_machine.proofs.Sound.{Sound}
+use Rattle.order_theory.proofs.Runs.{Rest, exec}
+use Rattle.order_theory.proofs.Orders.{Calm, fires, one-rest}
 use Rattle.order.specs.Firings.{GoodStart, readyAfter, OneEnd, OneRest}
 use Rattle.order.proofs.Model.{kindsAs, stateAs}
 use Rattle.order.proofs.RunLink.{run-link, run-fired, rest-link, state-back}
@@ -52,7 +52,7 @@ module _ (a : Abstract) (sound : Sound a) (m : Machine) (g : GoodM a m) where
 calm-kinds : (t : Sheet) → checkOf t ≡ accepted → isCalm (viewSheet t) ≡ true → Calm (kindsAs (viewSheet t))
 calm-kinds t h c =
     let k = calm-link t h c in
-    let f = Rattle.theory.proofs.Accept.accepted (t .inputs) (t .queues) (kindsAs (viewSheet t)) (k .acc) in
+    let f = Rattle.order_theory.proofs.Accept.accepted (t .inputs) (t .queues) (kindsAs (viewSheet t)) (k .acc) in
     record { def-once = f .def-once; apart = f .apart }
 
 module _ (t : Sheet) (st : State) (s : List ℤ) (start : GoodStart t st s) where

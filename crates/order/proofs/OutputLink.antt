@@ -9,20 +9,20 @@ use native.Mathlib.Omega.{arith}
 use lib.ListN.{length, getD, take}
 use lib.IntN.{ℤ, pos}
 use borrow.Author.Tests.{lt-ltb, le-ltb}
-use Rattle.lists.specs.Lists.{any, member}
-use Rattle.lists.proofs.Build.{take-build, build-ext}
-use Rattle.operator.specs.Op.{Op, reads}
+use Rattle.base_lists.specs.Lists.{any, member}
+use Rattle.base_lists.proofs.Build.{take-build, build-ext}
+use Rattle.sheet_operator.specs.Op.{Op, reads}
 use Rattle.sheet.specs.declared.Sheet.{Sheet}
 use Rattle.sheet.specs.Answer.{accepted}
 use Rattle.sheet.specs.Sheet.{viewSheet}
 use Rattle.sheet.specs.Check.{checkOf}
-use Rattle.store.specs.declared.Item.{Item}
-use Rattle.machine.specs.Machine.{Machine, isOutput}
-use Rattle.machine.specs.Numbers.{GoodM}
-use Rattle.machine.proofs.Good.{decode-of-encode}
-use Rattle.machine.proofs.Sound.{sound-of-accepted}
-use Rattle.theory.proofs.Equations.{Whole}
-use Rattle.theory.proofs.Rewrites.{readBy, harvest}
+use Rattle.run_store.specs.declared.Item.{Item}
+use Rattle.run_machine.specs.Machine.{Machine, isOutput}
+use Rattle.run_machine.specs.Numbers.{GoodM}
+use Rattle.run_machine.proofs.Good.{decode-of-encode}
+use Rattle.run_machine.proofs.Sound.{sound-of-accepted}
+use Rattle.order_theory.proofs.Equations.{Whole}
+use Rattle.order_theory.proofs.Rewrites.{readBy, harvest}
 use Rattle.order.specs.Order.{kept, outputsIn, outputs}
 use Rattle.order.proofs.Model.{TItem, kindAs, kindsAs, itemsAs, stateAs, itemOf, items-back}
 use Rattle.order.proofs.KindLaws.{takes-member}
@@ -73,7 +73,7 @@ module _ (t : Sheet) (h : checkOf t ≡ accepted) (m : Machine) (g : GoodM (view
   no-output : (q : ℕ) → t .queues ≤ q → isOutput (viewSheet t) q ≡ false
   no-output q l = ap (λ (b : Bool). b && not (any (λ (o : Op). member q (reads o)) (viewSheet t .ops))) (le-ltb q (t .queues) l)
 
-  pub outputs-as : map itemsAs (outputs t (held m)) ≡ Rattle.theory.proofs.Final.outputs (t .queues) (kindsAs (viewSheet t)) (stateAs m)
+  pub outputs-as : map itemsAs (outputs t (held m)) ≡ Rattle.order_theory.proofs.Final.outputs (t .queues) (kindsAs (viewSheet t)) (stateAs m)
   outputs-as =
       let s = sound-of-accepted t h in
       ap (λ (n : Machine). map itemsAs (outputsIn (isOutput (viewSheet t)) (n .queues) 0)) (decode-of-encode (viewSheet t) m g)

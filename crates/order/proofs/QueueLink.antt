@@ -11,17 +11,17 @@ use lib.Dec.{eqb, ltb, leb}
 use lib.ListN.{length, getD, set, length-map, length-set}
 use lib.Seq.{getD-set-same, getD-set-other}
 use borrow.Author.Tests.{eq-eqb, ne-eqb, ltb-true, lt-ltb, le-ltb, leb-true, leb-false}
-use Rattle.lists.specs.Lists.{all, member, times}
-use Rattle.lists.proofs.Build.{same-or, order}
-use Rattle.lists.proofs.Tests.{both, all-member}
-use Rattle.lists.proofs.Times.{once-first}
-use Rattle.lists.proofs.Members.{some-member, no-member}
-use Rattle.store.specs.declared.Item.{Item}
-use Rattle.bounds.specs.Bounds.{ROOM}
-use Rattle.machine.specs.Machine.{full, putAll}
-use Rattle.machine.proofs.Keeps.{puts-other}
-use Rattle.theory.proofs.Model.{push, pop, fits, room}
-use Rattle.theory.proofs.Trace.{mark}
+use Rattle.base_lists.specs.Lists.{all, member, times}
+use Rattle.base_lists.proofs.Build.{same-or, order}
+use Rattle.base_lists.proofs.Tests.{both, all-member}
+use Rattle.base_lists.proofs.Times.{once-first}
+use Rattle.base_lists.proofs.Members.{some-member, no-member}
+use Rattle.run_store.specs.declared.Item.{Item}
+use Rattle.base_bounds.specs.Bounds.{ROOM}
+use Rattle.run_machine.specs.Machine.{full, putAll}
+use Rattle.run_machine.proofs.Keeps.{puts-other}
+use Rattle.order_theory.proofs.Model.{push, pop, fits, room}
+use Rattle.order_theory.proofs.Trace.{mark}
 use Rattle.order.proofs.Model.{TItem, itemAs, itemsAs}
 
 -- ---- a take

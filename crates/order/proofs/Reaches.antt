@@ -8,16 +8,16 @@ use Prim.Native.Nat.{ℕ, zero, suc, _≤_, _<_}
 use native.Mathlib.Nat.{zero-add}
 use native.Mathlib.Omega.{arith}
 use lib.Count.{trailingZeros}
-use Rattle.lists.proofs.Build.{order, never}
-use Rattle.operator.specs.Op.{Abstract}
+use Rattle.base_lists.proofs.Build.{order, never}
+use Rattle.sheet_operator.specs.Op.{Abstract}
 use Rattle.sheet.specs.Sheet.{viewSheet}
-use Rattle.machine.specs.Machine.{Machine, Outcome, refuse, done, fireM, Ran, ranOn, runFrom}
-use Rattle.machine.specs.Ready.{SET, accepts, readyAt, readySet}
-use Rattle.machine.specs.Numbers.{decode, GoodM}
-use Rattle.machine.specs.Calls.{ReadyCall}
-use Rattle.machine.proofs.Sound.{Sound}
-use Rattle.machine.proofs.Keeps.{fire-keeps}
-use Rattle.machine.proofs.ReadyLaws.{bits-zero-of, ready-lowest}
+use Rattle.run_machine.specs.Machine.{Machine, Outcome, refuse, done, fireM, Ran, ranOn, runFrom}
+use Rattle.run_machine.specs.Ready.{SET, accepts, readyAt, readySet}
+use Rattle.run_machine.specs.Numbers.{decode, GoodM}
+use Rattle.run_machine.specs.Calls.{ReadyCall}
+use Rattle.run_machine.proofs.Sound.{Sound}
+use Rattle.run_machine.proofs.Keeps.{fire-keeps}
+use Rattle.run_machine.proofs.ReadyLaws.{bits-zero-of, ready-lowest}
 use Rattle.order.specs.Firings.{ReachesRest}
 use Rattle.order.proofs.Starts.{start-sheet, start-good, start-sound, ready-of-start}
 use Rattle.order.proofs.Readers.{Onward, onward-of-accepted}

@@ -7,19 +7,19 @@ use Prim.Native.Nat.{ℕ, _<_}
 use native.Mathlib.Omega.{arith}
 use lib.ListN.{length}
 use borrow.Author.Tests.{lt-ltb}
-use Rattle.lists.specs.Lists.{build, member, chain}
-use Rattle.lists.proofs.Build.{same-or}
-use Rattle.lists.proofs.Times.{times-append, times-member, once-in-chain, twice-in-chain}
-use Rattle.lists.proofs.Members.{member-below}
-use Rattle.operator.specs.Op.{Op, double, Abstract, reads, defines}
-use Rattle.operator.specs.Memory.{view}
+use Rattle.base_lists.specs.Lists.{build, member, chain}
+use Rattle.base_lists.proofs.Build.{same-or}
+use Rattle.base_lists.proofs.Times.{times-append, times-member, once-in-chain, twice-in-chain}
+use Rattle.base_lists.proofs.Members.{member-below}
+use Rattle.sheet_operator.specs.Op.{Op, double, Abstract, reads, defines}
+use Rattle.sheet_operator.specs.Memory.{view}
 use Rattle.sheet.specs.declared.Sheet.{Sheet}
 use Rattle.sheet.specs.Answer.{accepted}
 use Rattle.sheet.specs.Sheet.{opAt, viewSheet}
 use Rattle.sheet.specs.Check.{checkOf}
 use Rattle.sheet.proofs.Laws.{define-below, defined-once, read-at-most-once, read-is-earlier}
 use Rattle.sheet.proofs.Placed.{ops-many, ops-at}
-use Rattle.machine.proofs.Sound.{opIn}
+use Rattle.run_machine.proofs.Sound.{opIn}
 
 -- ---- items go on to operators further on
 

@@ -6,15 +6,15 @@ use mathlib.Core.List.{List, _∷_, _++_, map}
 use Prim.Native.Nat.{ℕ}
 use native.Mathlib.Omega.{arith}
 use lib.ListN.{length, set, length-append}
-use Rattle.lists.specs.Lists.{all}
-use Rattle.lists.proofs.Tests.{both, all-append}
-use Rattle.step.specs.declared.Step.{Step}
-use Rattle.operator.specs.Op.{Op, line, Abstract}
-use Rattle.judge.specs.Judge.{seven}
+use Rattle.base_lists.specs.Lists.{all}
+use Rattle.base_lists.proofs.Tests.{both, all-append}
+use Rattle.sheet_step.specs.declared.Step.{Step}
+use Rattle.sheet_operator.specs.Op.{Op, line, Abstract}
+use Rattle.sheet_judge.specs.Judge.{seven}
 use Rattle.rewrite_rules.specs.Rewrite.{inOf, outOf, stepsOf, at, nextOf, touchesNone, leaves, exchanged}
-use Rattle.theory.proofs.Equations.{Kind}
-use Rattle.theory.proofs.Rewrites.{All, also, all-join}
-use Rattle.theory.proofs.Final.{Made, as-is, reordered, made}
+use Rattle.order_theory.proofs.Equations.{Kind}
+use Rattle.order_theory.proofs.Rewrites.{All, also, all-join}
+use Rattle.order_theory.proofs.Final.{Made, as-is, reordered, made}
 use Rattle.order.proofs.Model.{stepAs, kindAs}
 use Rattle.order.proofs.GoodSheets.{GoodOp, GoodSheet, Next, over, good-line}
 use Rattle.order.proofs.TwoLines.{TwoLines, set-both}

@@ -12,19 +12,19 @@ use lib.IntN.{ℤ, pos}
 use lib.Dec.{ltb}
 use lib.Seq.{ext-getD}
 use borrow.Author.Tests.{ltb-true}
-use Rattle.lists.specs.Lists.{member}
-use Rattle.lists.proofs.Build.{never'}
-use Rattle.lists.proofs.Tests.{all-member}
-use Rattle.operator.specs.Op.{double, Abstract, reads}
-use Rattle.machine.specs.Machine.{Machine, Outcome, refuse, done, fireM, Ran, ranOn, runFrom, runM}
-use Rattle.machine.specs.Ready.{SET, accepts, readySet}
-use Rattle.machine.specs.Numbers.{GoodM}
-use Rattle.machine.proofs.Sound.{opIn, Sound}
-use Rattle.machine.proofs.Keeps.{fire-keeps}
-use Rattle.machine.proofs.ReadyLaws.{ready-rest}
-use Rattle.theory.proofs.Runs.{Rest, exec, fired, orElse, tick}
-use Rattle.theory.proofs.Model.{State}
-use Rattle.theory.proofs.Orders.{fires}
+use Rattle.base_lists.specs.Lists.{member}
+use Rattle.base_lists.proofs.Build.{never'}
+use Rattle.base_lists.proofs.Tests.{all-member}
+use Rattle.sheet_operator.specs.Op.{double, Abstract, reads}
+use Rattle.run_machine.specs.Machine.{Machine, Outcome, refuse, done, fireM, Ran, ranOn, runFrom, runM}
+use Rattle.run_machine.specs.Ready.{SET, accepts, readySet}
+use Rattle.run_machine.specs.Numbers.{GoodM}
+use Rattle.run_machine.proofs.Sound.{opIn, Sound}
+use Rattle.run_machine.proofs.Keeps.{fire-keeps}
+use Rattle.run_machine.proofs.ReadyLaws.{ready-rest}
+use Rattle.order_theory.proofs.Runs.{Rest, exec, fired, orElse, tick}
+use Rattle.order_theory.proofs.Model.{State}
+use Rattle.order_theory.proofs.Orders.{fires}
 use Rattle.order.proofs.Model.{TItem, kindsAs, stateAs, same-items}
 use Rattle.order.proofs.FireLink.{outcomeAs, fire-as}
 

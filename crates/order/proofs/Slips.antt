@@ -5,11 +5,11 @@ use mathlib.Core.Bool.{true, false}
 use mathlib.Core.List.{[]}
 use lib.ListN.{replicate}
 use lib.IntN.{pos}
-use Rattle.lists.specs.Lists.{all}
-use Rattle.step.specs.Step.{stepNames, stepVariable, unusedZ, fieldPlace, stepPlaces, blank}
-use Rattle.operator.specs.Memory.{tidyAs, memoryNumber, vacant}
-use Rattle.judge.specs.Judge.{four, five, six, seven, judgeBy, whole}
-use Rattle.format.specs.Head.{headGood}
+use Rattle.base_lists.specs.Lists.{all}
+use Rattle.sheet_step.specs.Step.{stepNames, stepVariable, unusedZ, fieldPlace, stepPlaces, blank}
+use Rattle.sheet_operator.specs.Memory.{tidyAs, memoryNumber, vacant}
+use Rattle.sheet_judge.specs.Judge.{four, five, six, seven, judgeBy, whole}
+use Rattle.sheet_format.specs.Head.{headGood}
 use Rattle.sheet.specs.declared.Sheet.{Sheet}
 use Rattle.sheet.specs.Answer.{accepted, refused}
 use Rattle.sheet.specs.Sheet.{viewSheet}
@@ -17,16 +17,16 @@ use Rattle.sheet.specs.Check.{checkFrom, ending, checkOf}
 use Rattle.counts.specs.Calm.{isCalm}
 use Rattle.counts.specs.Worst.{feedGood}
 use Rattle.counts.specs.Answers.{worstOf}
-use Rattle.store.specs.Store.{STORE, part, withPart, fields, firstOf}
-use Rattle.store.specs.Queues.{encodeItems, queuePart, storeOf, itemsOf, queuesOf}
-use Rattle.store.specs.Quiet.{quietQueue, quietFrom}
-use Rattle.effect.specs.Flow.{does, stepped}
-use Rattle.effect.specs.Effect.{effect, waits, cursorGood}
-use Rattle.machine.specs.Machine.{commit, fireFrom, fireFirst, runFrom}
-use Rattle.machine.specs.Ready.{readySet}
-use Rattle.machine.specs.Numbers.{good}
-use Rattle.machine.specs.Calls.{Call, freshOf, fireOf, runOf, readyOf}
-use Rattle.machine.proofs.FreshLaws.{freshMachine}
+use Rattle.run_store.specs.Store.{STORE, part, withPart, fields, firstOf}
+use Rattle.run_store.specs.Queues.{encodeItems, queuePart, storeOf, itemsOf, queuesOf}
+use Rattle.run_store.specs.Quiet.{quietQueue, quietFrom}
+use Rattle.run_effect.specs.Flow.{does, stepped}
+use Rattle.run_effect.specs.Effect.{effect, waits, cursorGood}
+use Rattle.run_machine.specs.Machine.{commit, fireFrom, fireFirst, runFrom}
+use Rattle.run_machine.specs.Ready.{readySet}
+use Rattle.run_machine.specs.Numbers.{good}
+use Rattle.run_machine.specs.Calls.{Call, freshOf, fireOf, runOf, readyOf}
+use Rattle.run_machine.proofs.FreshLaws.{freshMachine}
 use Rattle.rewrite_rules.specs.Rewrite.{split, reorder}
 use Rattle.rewriter.specs.Calls.{splitOf, reorderOf}
 use Rattle.order.specs.Order.{fed, toInputs, wideFeeds, roomy}

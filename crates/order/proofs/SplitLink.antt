@@ -10,21 +10,21 @@ use lib.Dec.{ltb, leb, eqb}
 use lib.ListN.{length, take, drop, length-append}
 use lib.Seq.{split-at, append-snoc}
 use borrow.Author.Tests.{ltb-true, lt-ltb, leb-true}
-use Rattle.lists.specs.Lists.{all, build}
-use Rattle.lists.proofs.Build.{build-ext, build-length, build-getD}
-use Rattle.lists.proofs.Tests.{both, all-implies}
-use Rattle.step.specs.Step.{rowOf, knownFunc, stepVariable, NO_VARIABLE}
-use Rattle.step.specs.declared.Func.{Func}
-use Rattle.step.specs.declared.Func.the-variants.{None, Keep, Add, Copy, Count, Stamp}
-use Rattle.step.specs.declared.Step.{Step}
-use Rattle.operator.specs.Op.{Op, line, latest, double, deal, gather, Abstract}
-use Rattle.operator.specs.Memory.{PLACES}
-use Rattle.judge.specs.Judge.{variablesGood, seven}
-use Rattle.bounds.specs.Bounds.{OPERATORS, VARIABLES, QUEUES}
+use Rattle.base_lists.specs.Lists.{all, build}
+use Rattle.base_lists.proofs.Build.{build-ext, build-length, build-getD}
+use Rattle.base_lists.proofs.Tests.{both, all-implies}
+use Rattle.sheet_step.specs.Step.{rowOf, knownFunc, stepVariable, NO_VARIABLE}
+use Rattle.sheet_step.specs.declared.Func.{Func}
+use Rattle.sheet_step.specs.declared.Func.the-variants.{None, Keep, Add, Copy, Count, Stamp}
+use Rattle.sheet_step.specs.declared.Step.{Step}
+use Rattle.sheet_operator.specs.Op.{Op, line, latest, double, deal, gather, Abstract}
+use Rattle.sheet_operator.specs.Memory.{PLACES}
+use Rattle.sheet_judge.specs.Judge.{variablesGood, seven}
+use Rattle.base_bounds.specs.Bounds.{OPERATORS, VARIABLES, QUEUES}
 use Rattle.rewrite_rules.specs.Rewrite.{isLine, inOf, outOf, stepsOf, at, parted, roomToSplit, touchesNone, writesSome}
-use Rattle.theory.proofs.Equations.{Kind}
-use Rattle.theory.proofs.Rewrites.{All, none-left, also, first, rest, all-join, all-left, all-right, all-of, range, lines}
-use Rattle.theory.proofs.Final.{Made, as-is, splitted, made}
+use Rattle.order_theory.proofs.Equations.{Kind}
+use Rattle.order_theory.proofs.Rewrites.{All, none-left, also, first, rest, all-join, all-left, all-right, all-of, range, lines}
+use Rattle.order_theory.proofs.Final.{Made, as-is, splitted, made}
 use Rattle.order.proofs.Model.{stepAs, kindAs}
 use Rattle.order.proofs.GoodSheets.{GoodOp, GoodSheet, Next, over, good-line}
 use Rattle.order.proofs.TwoLines.{is-line}
@@ -100,12 +100,12 @@ module _ (a : Abstract) (p o k : ℕ) (ss : List Step) (pre post : List Op) wher
   partedSheet = record { inputs = a .inputs; queues = a .queues + 2 * k; variables = a .variables + 2; ops = parts }
 
   parts-kinds :
-      Rattle.theory.proofs.MoreAcc.split (a .inputs) (a .queues) (a .variables) p o k (map stepAs ss) (map kindAs pre) (map kindAs post) ≡ map kindAs parts
+      Rattle.order_theory.proofs.MoreAcc.split (a .inputs) (a .queues) (a .variables) p o k (map stepAs ss) (map kindAs pre) (map kindAs post) ≡ map kindAs parts
   parts-kinds =
-      let d : Rattle.theory.proofs.Equations.deal (a .variables) p (range (a .queues) k) ≡ kindAs dealing =
-      ap (λ (l : List ℕ). Rattle.theory.proofs.Equations.deal (a .variables) p l) (range-build (a .queues) k) in
-      let g : Rattle.theory.proofs.Equations.gather (suc (a .variables)) o (range (a .queues + k) k) ≡ kindAs gathering =
-      ap₂ (λ (c : ℕ) (l : List ℕ). Rattle.theory.proofs.Equations.gather c o l) (sym (add-one (a .variables))) (range-build (a .queues + k) k) in
+      let d : Rattle.order_theory.proofs.Equations.deal (a .variables) p (range (a .queues) k) ≡ kindAs dealing =
+      ap (λ (l : List ℕ). Rattle.order_theory.proofs.Equations.deal (a .variables) p l) (range-build (a .queues) k) in
+      let g : Rattle.order_theory.proofs.Equations.gather (suc (a .variables)) o (range (a .queues + k) k) ≡ kindAs gathering =
+      ap₂ (λ (c : ℕ) (l : List ℕ). Rattle.order_theory.proofs.Equations.gather c o l) (sym (add-one (a .variables))) (range-build (a .queues + k) k) in
       let w = lines-build (a .queues) (a .queues + k) k ss in
       ap₂ (λ (x : Kind) (l : List Kind). map kindAs pre ++ (x ∷ l)) d
       (ap₂ (λ (l : List Kind) (y : Kind). l ++ (y ∷ map kindAs post)) w g ∙ sym (map-append kindAs ways (gathering ∷ post)))

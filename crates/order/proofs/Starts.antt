@@ -9,14 +9,14 @@ use Rattle.sheet.specs.Answer.{accepted}
 use Rattle.sheet.specs.Sheet.{viewSheet}
 use Rattle.sheet.specs.Check.{checkOf}
 use Rattle.sheet.proofs.AnswerLaws.{both-stand}
-use Rattle.machine.specs.declared.State.{State}
-use Rattle.machine.specs.Machine.{runM}
-use Rattle.machine.specs.Ready.{readySet}
-use Rattle.machine.specs.Numbers.{decode, good, GoodM}
-use Rattle.machine.specs.Calls.{RunCall, savedRun, readyCall, runOf, readyOf}
-use Rattle.machine.proofs.Good.{machine-of-good}
-use Rattle.machine.proofs.Sound.{Sound, sound-of-accepted}
-use Rattle.machine.proofs.Keeps.{run-keeps}
+use Rattle.run_machine.specs.declared.State.{State}
+use Rattle.run_machine.specs.Machine.{runM}
+use Rattle.run_machine.specs.Ready.{readySet}
+use Rattle.run_machine.specs.Numbers.{decode, good, GoodM}
+use Rattle.run_machine.specs.Calls.{RunCall, savedRun, readyCall, runOf, readyOf}
+use Rattle.run_machine.proofs.Good.{machine-of-good}
+use Rattle.run_machine.proofs.Sound.{Sound, sound-of-accepted}
+use Rattle.run_machine.proofs.Keeps.{run-keeps}
 use Rattle.order.specs.Firings.{GoodStart, readyAfter}
 use Rattle.order.proofs.Held.{ready-held}
 

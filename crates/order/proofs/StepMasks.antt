@@ -6,16 +6,16 @@ use mathlib.Core.List.{List, [], _∷_, _++_, map}
 use Prim.Native.Nat.{ℕ}
 use lib.Dec.{eqb}
 use borrow.Author.Tests.{not-true}
-use Rattle.lists.specs.Lists.{all, member}
-use Rattle.lists.proofs.Build.{never}
-use Rattle.lists.proofs.Tests.{both, both-of, neither, all-implies, all-member, member-append, or-left, or-right}
-use Rattle.step.specs.Step.{rowOf, knownFunc, stepPlaces}
-use Rattle.step.specs.declared.Func.{Func}
-use Rattle.step.specs.declared.Func.the-variants.{None, Keep, Add, Copy, Count, Stamp}
-use Rattle.step.specs.declared.Step.{Step}
-use Rattle.format.proofs.Sizes.{knownSteps}
+use Rattle.base_lists.specs.Lists.{all, member}
+use Rattle.base_lists.proofs.Build.{never}
+use Rattle.base_lists.proofs.Tests.{both, both-of, neither, all-implies, all-member, member-append, or-left, or-right}
+use Rattle.sheet_step.specs.Step.{rowOf, knownFunc, stepPlaces}
+use Rattle.sheet_step.specs.declared.Func.{Func}
+use Rattle.sheet_step.specs.declared.Func.the-variants.{None, Keep, Add, Copy, Count, Stamp}
+use Rattle.sheet_step.specs.declared.Step.{Step}
+use Rattle.sheet_format.proofs.Sizes.{knownSteps}
 use Rattle.rewrite_rules.specs.Rewrite.{touchesNone, writesSome, masked, fieldsRead, fieldsWritten, leaves}
-use Rattle.theory.proofs.Equations.{pure1, pure, total1, total, Free, Frees, Freed}
+use Rattle.order_theory.proofs.Equations.{pure1, pure, total1, total, Free, Frees, Freed}
 use Rattle.order.proofs.Model.{stepBy, stepAs}
 use Rattle.order.proofs.KindLaws.{or-none}
 
@@ -58,7 +58,7 @@ readBy f s = masked (rowOf f .reads) s
 abbrev writtenBy : Func → Step → List ℕ
 writtenBy f s = masked (rowOf f .writes) s
 
-reads-by : (f : Func) (s : Step) (k : ℕ) → knownFunc f ≡ true → Rattle.theory.proofs.Equations.reads (stepBy f s) k ≡ member k (readBy f s)
+reads-by : (f : Func) (s : Step) (k : ℕ) → knownFunc f ≡ true → Rattle.order_theory.proofs.Equations.reads (stepBy f s) k ≡ member k (readBy f s)
 reads-by None s k h = never h
 reads-by Keep s k h = or-none (eqb k (s .p))
 reads-by Add s k h = or-none (eqb k (s .p))
@@ -66,7 +66,7 @@ reads-by Copy s k h = or-none (eqb k (s .p))
 reads-by Count s k h = refl
 reads-by Stamp s k h = refl
 
-writes-by : (f : Func) (s : Step) (k : ℕ) → knownFunc f ≡ true → Rattle.theory.proofs.Equations.writes (stepBy f s) k ≡ member k (writtenBy f s)
+writes-by : (f : Func) (s : Step) (k : ℕ) → knownFunc f ≡ true → Rattle.order_theory.proofs.Equations.writes (stepBy f s) k ≡ member k (writtenBy f s)
 writes-by None s k h = never h
 writes-by Keep s k h = refl
 writes-by Add s k h = or-none (eqb k (s .p))

@@ -11,19 +11,19 @@ use lib.Dec.{eqb, ltb}
 use lib.ListN.{length, getD, set, take, drop, length-append, length-map, length-drop, List·getD-map}
 use lib.Seq.{set-at, take-at, drop-at, length-take-le}
 use borrow.Author.Tests.{ltb-true, lt-ltb, eqb-true, eq-eqb}
-use Rattle.lists.specs.Lists.{member}
-use Rattle.lists.proofs.Build.{never}
-use Rattle.lists.proofs.Tests.{both, or-cases}
-use Rattle.lists.proofs.Places.{getD-any}
-use Rattle.lists.proofs.Cut.{cut-two}
-use Rattle.operator.specs.Op.{Op, line, latest, double, deal, gather, Abstract, reads, defines}
-use Rattle.bounds.specs.Bounds.{OPERATORS}
-use Rattle.machine.proofs.ReaderLaws.{isRead, reader-found, reader-reads}
+use Rattle.base_lists.specs.Lists.{member}
+use Rattle.base_lists.proofs.Build.{never}
+use Rattle.base_lists.proofs.Tests.{both, or-cases}
+use Rattle.base_lists.proofs.Places.{getD-any}
+use Rattle.base_lists.proofs.Cut.{cut-two}
+use Rattle.sheet_operator.specs.Op.{Op, line, latest, double, deal, gather, Abstract, reads, defines}
+use Rattle.base_bounds.specs.Bounds.{OPERATORS}
+use Rattle.run_machine.proofs.ReaderLaws.{isRead, reader-found, reader-reads}
 use Rattle.rewrite_rules.specs.Rewrite.{isLine, inOf, outOf, stepsOf, at, nextOf, toLine}
-use Rattle.theory.proofs.Equations.{Kind}
-use Rattle.theory.proofs.Denote.{takesFrom}
-use Rattle.theory.proofs.Sheets.{gives, blank}
-use Rattle.theory.proofs.Accept.{accepted}
+use Rattle.order_theory.proofs.Equations.{Kind}
+use Rattle.order_theory.proofs.Denote.{takesFrom}
+use Rattle.order_theory.proofs.Sheets.{gives, blank}
+use Rattle.order_theory.proofs.Accept.{accepted}
 use Rattle.order.proofs.Model.{kindAs, kindsAs}
 use Rattle.order.proofs.KindLaws.{gives-member, takes-member}
 use Rattle.order.proofs.GoodSheets.{GoodSheet}

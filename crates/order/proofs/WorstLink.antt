@@ -10,12 +10,12 @@ use lib.Dec.{eqb, ltb, leb}
 use lib.ListN.{length, getD, set, length-map, length-set, List·getD-eq-default}
 use lib.Seq.{getD-set-same, getD-set-other}
 use borrow.Author.Tests.{ltb-true, leb-true, eqb-true, eqb-false}
-use Rattle.lists.specs.Lists.{all, sum, member}
-use Rattle.lists.proofs.Build.{order, build-length, build-getD}
-use Rattle.lists.proofs.Tests.{both, all-getD, all-of-each}
-use Rattle.lists.proofs.Members.{all-below}
-use Rattle.operator.specs.Op.{Op, line, latest, double, deal, gather, defines}
-use Rattle.bounds.specs.Bounds.{QUEUES, ROOM}
+use Rattle.base_lists.specs.Lists.{all, sum, member}
+use Rattle.base_lists.proofs.Build.{order, build-length, build-getD}
+use Rattle.base_lists.proofs.Tests.{both, all-getD, all-of-each}
+use Rattle.base_lists.proofs.Members.{all-below}
+use Rattle.sheet_operator.specs.Op.{Op, line, latest, double, deal, gather, defines}
+use Rattle.base_bounds.specs.Bounds.{QUEUES, ROOM}
 use Rattle.sheet.specs.declared.Sheet.{Sheet}
 use Rattle.sheet.specs.Answer.{accepted, isAccepted}
 use Rattle.sheet.specs.Sheet.{viewSheet}
@@ -23,14 +23,14 @@ use Rattle.sheet.specs.Check.{checkOf}
 use Rattle.counts.specs.Worst.{feedGood, dealt, worstOp, worstFrom}
 use Rattle.counts.specs.Answers.{Counting, worstOf}
 use Rattle.counts.proofs.WorstLaws.{worst-overfed, worst-counted, fed-most, worst-from-length}
-use Rattle.machine.proofs.Sound.{sound-of-accepted}
-use Rattle.theory.proofs.Equations.{Kind}
-use Rattle.theory.proofs.Sheets.{gives, blank, find-none}
-use Rattle.theory.proofs.Rewrites.{all-at}
-use Rattle.theory.proofs.Counts.{WEq}
-use Rattle.theory.proofs.Accept.{Acc, tot-none, givesN, not-gives, defs-le}
-use Rattle.theory.proofs.WorstOf.{wput, worst-frame, worst-all}
-use Rattle.theory.proofs.Demand.{Counted}
+use Rattle.run_machine.proofs.Sound.{sound-of-accepted}
+use Rattle.order_theory.proofs.Equations.{Kind}
+use Rattle.order_theory.proofs.Sheets.{gives, blank, find-none}
+use Rattle.order_theory.proofs.Rewrites.{all-at}
+use Rattle.order_theory.proofs.Counts.{WEq}
+use Rattle.order_theory.proofs.Accept.{Acc, tot-none, givesN, not-gives, defs-le}
+use Rattle.order_theory.proofs.WorstOf.{wput, worst-frame, worst-all}
+use Rattle.order_theory.proofs.Demand.{Counted}
 use Rattle.order.specs.Order.{Feed, given, numbersFed, toInputs, roomy}
 use Rattle.order.proofs.Model.{kindAs, kindsAs, itemAs, itemsAs}
 use Rattle.order.proofs.FeedLink.{given-none}
@@ -67,15 +67,15 @@ dealt-at (r ∷ qs) w n k j h q =
 
 -- a sum from its front
 abbrev tsum : ℕ → (ℕ → ℕ) → ℕ
-tsum = Rattle.theory.proofs.Kahn.sum
+tsum = Rattle.order_theory.proofs.Kahn.sum
 
 sum-front : (n : ℕ) (f : ℕ → ℕ) → tsum (suc n) f ≡ f 0 + tsum n (λ j. f (suc j))
-unfolding Rattle.theory.proofs.Kahn.sum
+unfolding Rattle.order_theory.proofs.Kahn.sum
 sum-front zero f = refl
 sum-front (suc n) f = omega (arith, sum-front n f)
 
 sum-as : (w ps : List ℕ) → sum (map (λ (p : ℕ). getD w p 0) ps) ≡ tsum (length ps) (λ j. at w (getD ps j 0))
-unfolding Rattle.theory.proofs.Kahn.sum
+unfolding Rattle.order_theory.proofs.Kahn.sum
 sum-as w [] = refl
 sum-as w (p ∷ ps) = omega (arith, sum-as w ps, sum-front (length ps) (λ j. at w (getD (p ∷ ps) j 0)))
 
@@ -102,11 +102,11 @@ put-as w (gather c o ps) h q =
 
 -- all of them, in record order
 abbrev asWorst : (ℕ → ℕ) → List Kind → ℕ → ℕ
-asWorst = Rattle.theory.proofs.WorstOf.worstOf
+asWorst = Rattle.order_theory.proofs.WorstOf.worstOf
 
 worst-as : (os : List Op) (w : List ℕ) → all (λ (o : Op). below (length w) (defines o)) os ≡ true → (q : ℕ) →
     at (worstFrom w os) q ≡ asWorst (at w) (map kindAs os) q
-unfolding Rattle.theory.proofs.WorstOf.worstOf
+unfolding Rattle.order_theory.proofs.WorstOf.worstOf
 worst-as [] w h q = refl
 worst-as (o ∷ os) w h q =
     let p = both (below (length w) (defines o)) (all (λ (x : Op). below (length w) (defines x)) os) h in

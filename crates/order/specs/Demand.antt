@@ -7,8 +7,8 @@ use lib.ListN.{take}
 use lib.IntN.{ℤ}
 use Rattle.sheet.specs.declared.Sheet.{Sheet}
 use Rattle.sheet.specs.Answer.{accepted}
-use Rattle.machine.specs.declared.State.{State}
-use Rattle.machine.specs.Calls.{Call, freshOf, runOf, readyOf}
+use Rattle.run_machine.specs.declared.State.{State}
+use Rattle.run_machine.specs.Calls.{Call, freshOf, runOf, readyOf}
 use Rattle.order.specs.Order.{calmSheet, Made, Feed, fed, AllTaken, given, toInputs, wideFeeds, roomy, outputs}
 
 -- one side of the comparison: a sheet started fresh (whatever state and store held), fed, and fired from a list of queue numbers

@@ -5,11 +5,11 @@ use mathlib.Core.Bool.{true}
 use mathlib.Core.List.{List}
 use lib.ListN.{length}
 use lib.IntN.{ℤ}
-use Rattle.bounds.specs.Bounds.{VARIABLES, QUEUES}
+use Rattle.base_bounds.specs.Bounds.{VARIABLES, QUEUES}
 use Rattle.sheet.specs.declared.Sheet.{Sheet}
 use Rattle.sheet.specs.Answer.{accepted}
-use Rattle.machine.specs.declared.State.{State}
-use Rattle.machine.specs.Calls.{standsOf, ReadyCall, runOf, readyOf}
+use Rattle.run_machine.specs.declared.State.{State}
+use Rattle.run_machine.specs.Calls.{standsOf, ReadyCall, runOf, readyOf}
 use Rattle.order.specs.Order.{calmSheet}
 
 -- the lengths of every state of the program

@@ -3,13 +3,13 @@ use Prim.Native.Nat.{ℕ}
 use mathlib.Core.List.{List, [], _∷_, map}
 use lib.ListN.{replicate}
 use lib.IntN.{pos, negsuc}
-use Rattle.step.specs.declared.Step.{Step}
-use Rattle.operator.specs.Op.{line}
-use Rattle.bounds.specs.Bounds.{VARIABLES, QUEUES}
+use Rattle.sheet_step.specs.declared.Step.{Step}
+use Rattle.sheet_operator.specs.Op.{line}
+use Rattle.base_bounds.specs.Bounds.{VARIABLES, QUEUES}
 use Rattle.sheet.specs.declared.Sheet.{Sheet}
-use Rattle.store.specs.Store.{STORE}
-use Rattle.store.specs.declared.Item.{Item}
-use Rattle.machine.specs.declared.State.{State}
+use Rattle.run_store.specs.Store.{STORE}
+use Rattle.run_store.specs.declared.Item.{Item}
+use Rattle.run_machine.specs.declared.State.{State}
 use Rattle.rewriter.specs.Calls.{splitOf}
 use Rattle.order.specs.Order.{Feed}
 use Rattle.order.specs.Demand.{Side}

@@ -5,18 +5,18 @@ use mathlib.Core.Bool.{Bool, cond, _&&_}
 use mathlib.Core.List.{List, [], _∷_}
 use lib.Dec.{eqb, ltb, leb}
 use lib.ListN.{length}
-use Rattle.lists.specs.Lists.{all, build}
+use Rattle.base_lists.specs.Lists.{all, build}
 use Rattle.sheet.specs.declared.Sheet.{Sheet}
 use Rattle.sheet.specs.Answer.{accepted, isAccepted}
 use Rattle.sheet.specs.Sheet.{viewSheet}
 use Rattle.sheet.specs.Check.{checkOf}
 use Rattle.counts.specs.Calm.{isCalm}
-use Rattle.bounds.specs.Bounds.{ROOM, FIELDS, QUEUES}
+use Rattle.base_bounds.specs.Bounds.{ROOM, FIELDS, QUEUES}
 use Rattle.counts.specs.Answers.{worstOf}
-use Rattle.store.specs.declared.Item.{Item}
-use Rattle.machine.specs.Machine.{isOutput}
-use Rattle.machine.specs.Numbers.{decode}
-use Rattle.machine.specs.Calls.{Call, feedOf}
+use Rattle.run_store.specs.declared.Item.{Item}
+use Rattle.run_machine.specs.Machine.{isOutput}
+use Rattle.run_machine.specs.Numbers.{decode}
+use Rattle.run_machine.specs.Calls.{Call, feedOf}
 use Rattle.rewriter.specs.Calls.{fuseOf, splitOf, reorderOf}
 
 -- an accepted, calm sheet

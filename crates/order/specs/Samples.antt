@@ -2,16 +2,16 @@
 use Prim.Native.Nat.{ℕ}
 use mathlib.Core.List.{List, [], _∷_}
 use lib.IntN.{ℤ, pos}
-use Rattle.lists.specs.Lists.{pad}
-use Rattle.step.specs.Step.{NO_VARIABLE}
-use Rattle.step.specs.declared.Func.the-variants.{Keep, Add, Copy, Count, Stamp}
-use Rattle.step.specs.declared.Step.{Step}
-use Rattle.operator.specs.Op.{Op}
-use Rattle.bounds.specs.Bounds.{VARIABLES, FIELDS, QUEUES}
+use Rattle.base_lists.specs.Lists.{pad}
+use Rattle.sheet_step.specs.Step.{NO_VARIABLE}
+use Rattle.sheet_step.specs.declared.Func.the-variants.{Keep, Add, Copy, Count, Stamp}
+use Rattle.sheet_step.specs.declared.Step.{Step}
+use Rattle.sheet_operator.specs.Op.{Op}
+use Rattle.base_bounds.specs.Bounds.{VARIABLES, FIELDS, QUEUES}
 use Rattle.sheet.specs.declared.Sheet.{Sheet}
 use Rattle.sheet.specs.Sheet.{memorySheet}
-use Rattle.store.specs.declared.Item.{Item}
-use Rattle.machine.specs.Machine.{Machine}
+use Rattle.run_store.specs.declared.Item.{Item}
+use Rattle.run_machine.specs.Machine.{Machine}
 
 -- I inputs, Q queues, V variables and the operators
 abbrev pub sheetOf : ℕ → ℕ → ℕ → List Op → Sheet

@@ -4,11 +4,11 @@ use mathlib.Core.Path.{_≡_}
 use mathlib.Core.Bool.{true}
 use mathlib.Core.List.{List, [], _∷_, _++_}
 use lib.IntN.{ℤ}
-use Rattle.lists.specs.Lists.{bit}
+use Rattle.base_lists.specs.Lists.{bit}
 use Rattle.sheet.specs.declared.Sheet.{Sheet}
 use Rattle.sheet.specs.Answer.{accepted, isAccepted}
-use Rattle.machine.specs.declared.State.{State}
-use Rattle.machine.specs.Calls.{Call, RunCall, ReadyCall, fireOf, runOf, readyOf}
+use Rattle.run_machine.specs.declared.State.{State}
+use Rattle.run_machine.specs.Calls.{Call, RunCall, ReadyCall, fireOf, runOf, readyOf}
 use Rattle.order.specs.Order.{calmSheet, Made, Feed, AllTaken, outputs}
 use Rattle.order.specs.Demand.{Side, begun, filled, GoodFeeds, SameFeeds, variablesOf}
 use Rattle.order.specs.Firings.{Sized, GoodStart}

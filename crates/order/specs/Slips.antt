@@ -6,14 +6,14 @@ use mathlib.Core.List.{List, [], _∷_, _++_, map}
 use lib.Dec.{eqb}
 use lib.ListN.{replicate}
 use lib.IntN.{ℤ, pos, negsuc}
-use Rattle.operator.specs.Op.{line, latest, deal, gather}
+use Rattle.sheet_operator.specs.Op.{line, latest, deal, gather}
 use Rattle.sheet.specs.declared.Sheet.{Sheet}
 use Rattle.sheet.specs.Answer.{accepted, isAccepted}
-use Rattle.store.specs.declared.Item.{Item}
-use Rattle.bounds.specs.Bounds.{ROOM}
-use Rattle.machine.specs.Machine.{Machine}
-use Rattle.machine.specs.Numbers.{stateOf, storeIn}
-use Rattle.machine.specs.Calls.{Call, ReadyCall, runOf, readyOf}
+use Rattle.run_store.specs.declared.Item.{Item}
+use Rattle.base_bounds.specs.Bounds.{ROOM}
+use Rattle.run_machine.specs.Machine.{Machine}
+use Rattle.run_machine.specs.Numbers.{stateOf, storeIn}
+use Rattle.run_machine.specs.Calls.{Call, ReadyCall, runOf, readyOf}
 use Rattle.order.specs.Order.{Feed, outputs}
 use Rattle.order.specs.Demand.{filled, variablesOf}
 use Rattle.order.specs.Samples.{sheetOf, item, of, holding, addOne, copyTo, countTo, stampTo}

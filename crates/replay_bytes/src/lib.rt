@@ -1,9 +1,9 @@
 // The calls that read and write a sheet, 2 and 3, made and printed as the other calls on a sheet.
-use printer::put_answer;
-use printer::put_bad;
-use printer::put_byte;
-use printer::put_hex;
-use printer::put_text;
+use replay_printer::put_answer;
+use replay_printer::put_bad;
+use replay_printer::put_byte;
+use replay_printer::put_hex;
+use replay_printer::put_text;
 use sheet::Answer;
 use sheet::Sheet;
 ghost use Prim.Native.Nat.{_<_};
@@ -56,7 +56,7 @@ pub fn call_write(body: &[u8], t: Sheet, out: &mut [u8], used: usize) -> usize
     if body.len() != 2 {
         return put_bad(&mut *out, used);
     }
-    let n = number::short_at(body, 0);
+    let n = base_number::short_at(body, 0);
     let mut lent = [BEFORE; LENT];
     if LENT < n {
         return put_bad(&mut *out, used);

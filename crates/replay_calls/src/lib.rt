@@ -99,6 +99,6 @@ pub fn answer(
     ensures { λ r. ⌜ r .used < length (now (out .exit)) ⌝ }
 {
     let mut next = made(call, body, held, &mut *store, &mut *text, &mut *out);
-    next.used = printer::put_line(&mut *out, next.used, b"--");
+    next.used = replay_printer::put_line(&mut *out, next.used, b"--");
     next
 }

@@ -8,8 +8,8 @@ use lib.Dec.{eqb, ltb}
 use lib.IntN.{ℤ}
 use lib.ListN.{length, getD}
 use borrow.Author.Tests.{eqb-true, ltb-true, eq-eqb, lt-ltb, le-ltb}
-use Rattle.lists.proofs.Tests.{both}
-use Rattle.number.specs.Number.{shortOf}
+use Rattle.base_lists.proofs.Tests.{both}
+use Rattle.base_number.specs.Number.{shortOf}
 use Rattle.replay_held.specs.Held.{namesPlace}
 
 pub named : (body : List ℕ) (n places : ℕ) → namesPlace body n places ≡ true → (length body ≡ n) × (getD body 0 0 < places)

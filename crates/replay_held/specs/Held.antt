@@ -6,9 +6,9 @@ use mathlib.Core.List.{List}
 use lib.Dec.{eqb, ltb}
 use lib.IntN.{ℤ}
 use lib.ListN.{length, getD, set, drop}
-use Rattle.number.specs.Number.{shortOf, intOf}
-use Rattle.bounds.specs.Bounds.{VARIABLES, QUEUES}
-use Rattle.machine.specs.declared.State.{State}
+use Rattle.base_number.specs.Number.{shortOf, intOf}
+use Rattle.base_bounds.specs.Bounds.{VARIABLES, QUEUES}
+use Rattle.run_machine.specs.declared.State.{State}
 
 -- a body of n bytes, the first of which is below `places`
 abbrev pub namesPlace : List ℕ → ℕ → ℕ → Bool

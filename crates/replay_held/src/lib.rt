@@ -1,17 +1,17 @@
 // What replay holds between calls: at the start, after a call, and where a call sets one number of it, right or wrong.
-use machine::State;
+use run_machine::State;
 use sheet::Answer;
 use sheet::Sheet;
 ghost use Prim.Native.Nat.{_<_};
 ghost use mathlib.Core.Bool.{cond};
 ghost use mathlib.Core.Path.{_≡_};
 ghost use Rattle.sheet.specs.Answer.{paper, isAccepted};
-ghost use Rattle.machine.specs.Calls.{freshState};
+ghost use Rattle.run_machine.specs.Calls.{freshState};
 ghost use Rattle.replay_held.specs.Held.{namesPlace, CountSet, VariableSet, NumberSet};
 
 // The sheet that is held at the start: one input and no operator.
 fn first_sheet() -> Sheet {
-    let operators = [decode::NO_OPERATOR; sheet::OPERATORS];
+    let operators = [sheet_decode::NO_OPERATOR; sheet::OPERATORS];
     Sheet {
         inputs: 1,
         queues: 1,
@@ -25,8 +25,8 @@ fn first_state() -> State
     ensures { λ r. ⌜ r ≡ freshState ⌝ }
 {
     State {
-        counts: [0; machine::QUEUES],
-        vars: [0; machine::VARIABLES],
+        counts: [0; run_machine::QUEUES],
+        vars: [0; run_machine::VARIABLES],
     }
 }
 
@@ -103,7 +103,7 @@ fn names(body: &[u8], n: usize, places: usize) -> bool
 pub fn set_count(body: &[u8], state: State) -> Set
     ensures { λ r. ⌜ CountSet (now (body .entry)) state (r .good) (r .state) ⌝ }
 {
-    if !names(body, 2, machine::QUEUES) {
+    if !names(body, 2, run_machine::QUEUES) {
         return Set { good: false, state };
     }
     let q = wide(body[0]);
@@ -119,11 +119,11 @@ pub fn set_count(body: &[u8], state: State) -> Set
 pub fn set_variable(body: &[u8], state: State) -> Set
     ensures { λ r. ⌜ VariableSet (now (body .entry)) state (r .good) (r .state) ⌝ }
 {
-    if !names(body, 5, machine::VARIABLES) {
+    if !names(body, 5, run_machine::VARIABLES) {
         return Set { good: false, state };
     }
     let v = wide(body[0]);
-    let z = number::int_at(body, 1);
+    let z = base_number::int_at(body, 1);
     let mut next = state;
     next.vars[v] = z;
     Set {
@@ -139,11 +139,11 @@ pub fn set_number(body: &[u8], store: &mut [i32]) -> bool
     if body.len() != 6 {
         return false;
     }
-    let place = number::short_at(body, 0);
+    let place = base_number::short_at(body, 0);
     if store.len() <= place {
         return false;
     }
-    let z = number::int_at(body, 2);
+    let z = base_number::int_at(body, 2);
     store[place] = z;
     true
 }

@@ -10,7 +10,7 @@ fn bad_sheet(sheet: Sheet, out: &mut [u8], used: usize) -> Sheeted
     requires { ⌜ used < length (now out) ⌝ }
     ensures { λ r. ⌜ r .used < length (now (out .exit)) ⌝ }
 {
-    let used = printer::put_bad(&mut *out, used);
+    let used = replay_printer::put_bad(&mut *out, used);
     Sheeted { sheet, used }
 }
 

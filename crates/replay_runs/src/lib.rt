@@ -1,12 +1,12 @@
 // A run and the ready set, 13 and 14, made and printed as the other calls on a state.
-use machine::ReadySet;
-use machine::RunEnd;
-use machine::State;
-use printer::put_answer;
-use printer::put_bad;
-use printer::put_byte;
-use printer::put_named;
 use replay_held::Stated;
+use replay_printer::put_answer;
+use replay_printer::put_bad;
+use replay_printer::put_byte;
+use replay_printer::put_named;
+use run_machine::ReadySet;
+use run_machine::RunEnd;
+use run_machine::State;
 use sheet::Sheet;
 ghost use Prim.Native.Nat.{_<_};
 ghost use lib.ListN.{length};

@@ -1,14 +1,14 @@
 // The whole of a stream: each call is made and answered, up to its end.
-use stream::Found;
-use stream::Window;
+use replay_stream::Found;
+use replay_stream::Window;
 ghost use Prim.Native.Nat.{_<_};
 ghost use lib.ListN.{length};
 
 fn end_cut(out: &mut [u8], used: usize)
     requires { ⌜ used < length (now out) ⌝ }
 {
-    let at = printer::put_line(&mut *out, used, b"cut");
-    printer::flush(&*out, at);
+    let at = replay_printer::put_line(&mut *out, used, b"cut");
+    replay_printer::flush(&*out, at);
 }
 
 // The whole stream. Nothing says that it ends, so the turns are counted down from a number that no run uses up.
@@ -20,7 +20,7 @@ pub fn serve(input: &mut [u8], store: &mut [i32], text: &mut [u8], out: &mut [u8
     let mut turns = u64::MAX;
     while 0 < turns {
         turns -= 1;
-        let n = stream::next_call(&mut *input, w);
+        let n = replay_stream::next_call(&mut *input, w);
         let behind = n.window;
         w = behind;
         let at = n.at;
@@ -43,7 +43,7 @@ pub fn serve(input: &mut [u8], store: &mut [i32], text: &mut [u8], out: &mut [u8
                 return;
             }
             Found::End => {
-                printer::flush(&*out, held.used);
+                replay_printer::flush(&*out, held.used);
                 return;
             }
         }

@@ -10,14 +10,14 @@ use native.Mathlib.Omega.{arith}
 use lib.ListN.{length, getD, take, drop, length-map, List·getD-map}
 use lib.Seq.{length-take-le, getD-take}
 use borrow.Author.Tests.{lt-ltb, le-ltb}
-use Rattle.lists.specs.Lists.{build, pad}
-use Rattle.lists.proofs.Build.{order, build-length, build-ext, build-all, build-map}
-use Rattle.lists.proofs.Pad.{pad-full}
-use Rattle.step.specs.declared.Step.{Step}
-use Rattle.operator.specs.Op.{Op, line, latest, double, deal, gather}
-use Rattle.operator.specs.Memory.{PLACES, memory}
-use Rattle.operator.specs.declared.Kind.{Kind}
-use Rattle.operator.specs.declared.Operator.{Operator}
+use Rattle.base_lists.specs.Lists.{build, pad}
+use Rattle.base_lists.proofs.Build.{order, build-length, build-ext, build-all, build-map}
+use Rattle.base_lists.proofs.Pad.{pad-full}
+use Rattle.sheet_step.specs.declared.Step.{Step}
+use Rattle.sheet_operator.specs.Op.{Op, line, latest, double, deal, gather}
+use Rattle.sheet_operator.specs.Memory.{PLACES, memory}
+use Rattle.sheet_operator.specs.declared.Kind.{Kind}
+use Rattle.sheet_operator.specs.declared.Operator.{Operator}
 use Rattle.sheet.specs.Sheet.{missing}
 use Rattle.rewrite_rules.specs.Rewrite.{fallen, lowered}
 use Rattle.rewrite_fuse.specs.Working.{without, skip, loweredIn}

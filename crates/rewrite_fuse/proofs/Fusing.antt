@@ -8,12 +8,12 @@ use native.Mathlib.Omega.{arith}
 use lib.Dec.{leb}
 use lib.ListN.{length, getD, set, take, length-set, length-map}
 use borrow.Author.Tests.{le-leb, lt-leb}
-use Rattle.lists.specs.Lists.{pad}
-use Rattle.lists.proofs.Pad.{pad-take}
-use Rattle.operator.specs.Op.{Op, line, double}
-use Rattle.operator.specs.Memory.{PLACES, view, memory, noOperator}
-use Rattle.operator.specs.declared.Operator.{Operator}
-use Rattle.bounds.specs.Bounds.{OPERATORS}
+use Rattle.base_lists.specs.Lists.{pad}
+use Rattle.base_lists.proofs.Pad.{pad-take}
+use Rattle.sheet_operator.specs.Op.{Op, line, double}
+use Rattle.sheet_operator.specs.Memory.{PLACES, view, memory, noOperator}
+use Rattle.sheet_operator.specs.declared.Operator.{Operator}
+use Rattle.base_bounds.specs.Bounds.{OPERATORS}
 use Rattle.sheet.specs.declared.Sheet.{Sheet}
 use Rattle.sheet.specs.Answer.{accepted}
 use Rattle.sheet.specs.Sheet.{opAt, viewSheet, memorySheet, HeldSheet}

@@ -5,13 +5,13 @@ use mathlib.Core.Bool.{true}
 use mathlib.Core.List.{List, _++_}
 use Prim.Native.Nat.{ℕ, _+_}
 use lib.ListN.{length-append}
-use Rattle.lists.specs.Lists.{pad}
-use Rattle.lists.proofs.Build.{never}
-use Rattle.step.specs.Step.{noStep}
-use Rattle.step.specs.declared.Step.{Step}
-use Rattle.operator.specs.Op.{Op, line, latest, double, deal, gather}
-use Rattle.operator.specs.Memory.{PLACES, view, memory, stepsIn}
-use Rattle.operator.specs.declared.Operator.{Operator}
+use Rattle.base_lists.specs.Lists.{pad}
+use Rattle.base_lists.proofs.Build.{never}
+use Rattle.sheet_step.specs.Step.{noStep}
+use Rattle.sheet_step.specs.declared.Step.{Step}
+use Rattle.sheet_operator.specs.Op.{Op, line, latest, double, deal, gather}
+use Rattle.sheet_operator.specs.Memory.{PLACES, view, memory, stepsIn}
+use Rattle.sheet_operator.specs.declared.Operator.{Operator}
 use Rattle.rewrite_rules.specs.Rewrite.{isLine, inOf, outOf, stepsOf}
 use Rattle.rewrite_rules.specs.Working.{TwoLines}
 use Rattle.rewrite_rules.proofs.Lines.{line-steps}

@@ -4,7 +4,7 @@ use mathlib.Core.Bool.{cond}
 use mathlib.Core.List.{List, _++_, map}
 use lib.Dec.{ltb}
 use lib.ListN.{take, drop}
-use Rattle.operator.specs.declared.Operator.{Operator}
+use Rattle.sheet_operator.specs.declared.Operator.{Operator}
 use Rattle.rewrite_rules.specs.Rewrite.{fallen}
 
 -- the list without element j, and the place where element k of what is left stood

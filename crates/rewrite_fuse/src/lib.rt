@@ -1,17 +1,17 @@
 // Fuse: a line and the line that reads its out queue become one, and the queue between them goes.
-use operator::Operator;
 use rewrite_rules::Rewritten;
 use sheet::Sheet;
-use step::Step;
+use sheet_operator::Operator;
+use sheet_step::Step;
 ghost use mathlib.Core.Path.{_≡_};
 ghost use mathlib.Core.List.{_++_, map};
 ghost use Prim.Native.Nat.{_+_, _<_, _≤_};
 ghost use lib.ListN.{take};
-ghost use Rattle.lists.specs.Lists.{pad};
-ghost use Rattle.step.specs.Step.{noStep};
-ghost use Rattle.operator.specs.Op.{line};
-ghost use Rattle.operator.specs.Memory.{PLACES, view, memory, stepsIn, noOperator};
-ghost use Rattle.bounds.specs.Bounds.{OPERATORS};
+ghost use Rattle.base_lists.specs.Lists.{pad};
+ghost use Rattle.sheet_step.specs.Step.{noStep};
+ghost use Rattle.sheet_operator.specs.Op.{line};
+ghost use Rattle.sheet_operator.specs.Memory.{PLACES, view, memory, stepsIn, noOperator};
+ghost use Rattle.base_bounds.specs.Bounds.{OPERATORS};
 ghost use Rattle.sheet.specs.Answer.{accepted};
 ghost use Rattle.sheet.specs.Sheet.{viewSheet};
 ghost use Rattle.sheet.specs.Check.{checkOf};
@@ -31,12 +31,12 @@ fn fallen(m: u8, q: u8) -> u8
 }
 
 // The same of all places: 0, which an unused place holds, stays.
-fn all_fallen(m: u8, qs: [u8; operator::PLACES]) -> [u8; operator::PLACES]
+fn all_fallen(m: u8, qs: [u8; sheet_operator::PLACES]) -> [u8; sheet_operator::PLACES]
     ensures { λ r. ⌜ r ≡ map (fallen m) qs ⌝ }
 {
-    let mut r = [0u8; operator::PLACES];
+    let mut r = [0u8; sheet_operator::PLACES];
     let mut k = 0;
-    while k < operator::PLACES {
+    while k < sheet_operator::PLACES {
         let q = qs[k];
         r[k] = fallen(m, q);
         k += 1;
@@ -66,11 +66,11 @@ fn lowered(m: u8, o: Operator) -> Operator
 
 // The first n of ss and then the first m of ts.
 fn joined_steps(
-    ss: [Step; operator::PLACES],
+    ss: [Step; sheet_operator::PLACES],
     n: usize,
-    ts: [Step; operator::PLACES],
+    ts: [Step; sheet_operator::PLACES],
     m: usize,
-) -> [Step; operator::PLACES]
+) -> [Step; sheet_operator::PLACES]
     requires { ⌜ (n + m ≤ PLACES) × (ss ≡ pad PLACES noStep (stepsIn n ss)) ⌝ }
     ensures { λ r. ⌜ r ≡ pad PLACES noStep (stepsIn n ss ++ stepsIn m ts) ⌝ }
 {
@@ -127,7 +127,7 @@ fn closed_up(
     requires { ⌜ (n ≤ OPERATORS) × (j < n) ⌝ }
     ensures { λ r. ⌜ r ≡ pad OPERATORS noOperator (map (loweredIn m) (without j (take n operators))) ⌝ }
 {
-    let mut r = [decode::NO_OPERATOR; sheet::OPERATORS];
+    let mut r = [sheet_decode::NO_OPERATOR; sheet::OPERATORS];
     let left = n - 1;
     let mut k = 0;
     while k < left {
@@ -153,7 +153,7 @@ pub fn fuse_calm(t: Sheet, a: u8) -> Rewritten
     let o = t.operators[i];
     let p = t.operators[j];
     let steps = o.count + p.count;
-    if (operator::PLACES as u8) < steps {
+    if (sheet_operator::PLACES as u8) < steps {
         return rewrite_rules::refused(16);
     }
     let mut operators = t.operators;

@@ -2,10 +2,10 @@
 -- Assumes nothing.
 use mathlib.Core.Path.{_≡_, refl, sym, ap₂, _∙_}
 use mathlib.Core.Bool.{true}
-use Rattle.lists.proofs.Build.{never}
-use Rattle.operator.specs.Op.{Op, line, latest, double, deal, gather}
-use Rattle.operator.specs.Memory.{view, memory}
-use Rattle.operator.specs.declared.Operator.{Operator}
+use Rattle.base_lists.proofs.Build.{never}
+use Rattle.sheet_operator.specs.Op.{Op, line, latest, double, deal, gather}
+use Rattle.sheet_operator.specs.Memory.{view, memory}
+use Rattle.sheet_operator.specs.declared.Operator.{Operator}
 use Rattle.rewrite_rules.specs.Rewrite.{isLine, inOf, outOf, stepsOf}
 use Rattle.rewrite_rules.specs.Working.{TwoLines}
 

@@ -6,12 +6,12 @@ use mathlib.Core.List.{List, [], _∷_}
 use Prim.Native.Nat.{ℕ, _/_, _%_}
 use lib.Dec.{eqb}
 use borrow.Author.Tests.{eq-eqb, ne-eqb}
-use Rattle.lists.specs.Lists.{all, member}
-use Rattle.lists.proofs.Tests.{all-and, all-append, all-chain, member-append}
-use Rattle.step.specs.Step.{rowOf}
-use Rattle.step.specs.declared.Row.{Row}
-use Rattle.step.specs.declared.Step.{Step}
-use Rattle.judge.proofs.Loops.{first-fails, second-decides}
+use Rattle.base_lists.specs.Lists.{all, member}
+use Rattle.base_lists.proofs.Tests.{all-and, all-append, all-chain, member-append}
+use Rattle.sheet_step.specs.Step.{rowOf}
+use Rattle.sheet_step.specs.declared.Row.{Row}
+use Rattle.sheet_step.specs.declared.Step.{Step}
+use Rattle.sheet_judge.proofs.Loops.{first-fails, second-decides}
 use Rattle.rewrite_rules.specs.Rewrite.{masked, fieldsRead, fieldsWritten, leaves}
 use Rattle.rewrite_reorder.specs.Working.{touched, stepLeaves}
 

@@ -6,12 +6,12 @@ use mathlib.Core.List.{List, _++_}
 use Prim.Native.Nat.{ℕ}
 use native.Mathlib.Omega.{arith}
 use lib.ListN.{length, set, length-set}
-use Rattle.lists.specs.Lists.{all}
-use Rattle.lists.proofs.Tests.{all-append}
-use Rattle.step.specs.declared.Step.{Step}
-use Rattle.operator.specs.Op.{Op, line}
-use Rattle.operator.specs.Memory.{view, memory, stepsIn}
-use Rattle.operator.specs.declared.Operator.{Operator}
+use Rattle.base_lists.specs.Lists.{all}
+use Rattle.base_lists.proofs.Tests.{all-append}
+use Rattle.sheet_step.specs.declared.Step.{Step}
+use Rattle.sheet_operator.specs.Op.{Op, line}
+use Rattle.sheet_operator.specs.Memory.{view, memory, stepsIn}
+use Rattle.sheet_operator.specs.declared.Operator.{Operator}
 use Rattle.sheet.specs.declared.Sheet.{Sheet}
 use Rattle.sheet.specs.Answer.{accepted}
 use Rattle.sheet.specs.Sheet.{opAt, viewSheet, memorySheet, HeldSheet}

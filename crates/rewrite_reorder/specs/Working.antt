@@ -2,10 +2,10 @@
 use Prim.Native.Nat.{ℕ}
 use mathlib.Core.Bool.{Bool, not, _&&_, _||_}
 use mathlib.Core.List.{_++_}
-use Rattle.lists.specs.Lists.{all, member}
-use Rattle.step.specs.Step.{rowOf}
-use Rattle.step.specs.declared.Step.{Step}
-use Rattle.operator.specs.Op.{Op}
+use Rattle.base_lists.specs.Lists.{all, member}
+use Rattle.sheet_step.specs.Step.{rowOf}
+use Rattle.sheet_step.specs.declared.Step.{Step}
+use Rattle.sheet_operator.specs.Op.{Op}
 use Rattle.rewrite_rules.specs.Rewrite.{stepsOf, touchesNone, masked, leaves}
 
 -- the step reads or writes the field; no field that s writes is one that t reads or writes

@@ -1,17 +1,17 @@
 // Reorder: two lines exchange their steps, where no step takes a variable and neither line touches a field that the other writes.
-use operator::Operator;
 use rewrite_rules::Rewritten;
 use sheet::Sheet;
-use step::Step;
+use sheet_operator::Operator;
+use sheet_step::Step;
 ghost use mathlib.Core.Path.{_≡_};
 ghost use mathlib.Core.Bool.{true, cond, not};
 ghost use mathlib.Core.List.{[], _∷_};
 ghost use Prim.Native.Nat.{_≤_};
 ghost use lib.Dec.{eqb};
-ghost use Rattle.lists.specs.Lists.{all, member};
-ghost use Rattle.step.specs.Step.{rowOf};
-ghost use Rattle.operator.specs.Op.{line};
-ghost use Rattle.operator.specs.Memory.{PLACES, view, memory, stepsIn};
+ghost use Rattle.base_lists.specs.Lists.{all, member};
+ghost use Rattle.sheet_step.specs.Step.{rowOf};
+ghost use Rattle.sheet_operator.specs.Op.{line};
+ghost use Rattle.sheet_operator.specs.Memory.{PLACES, view, memory, stepsIn};
 ghost use Rattle.sheet.specs.Answer.{accepted};
 ghost use Rattle.sheet.specs.Sheet.{viewSheet};
 ghost use Rattle.sheet.specs.Check.{checkOf};
@@ -45,7 +45,7 @@ fn touches(t: Step, f: u8) -> bool
     ensures { λ r. ⌜ r ≡ touched t f ⌝ }
 {
     let k = t.func;
-    let w = step::row_of(k);
+    let w = sheet_step::row_of(k);
     if named(w.reads, t, f) {
         return true;
     }
@@ -67,7 +67,7 @@ fn step_left(s: Step, t: Step) -> bool
     ensures { λ r. ⌜ r ≡ stepLeaves s t ⌝ }
 {
     let k = s.func;
-    let w = step::row_of(k);
+    let w = sheet_step::row_of(k);
     let mask = w.writes;
     if !field_left(mask % 2, s.p, t) {
         return false;
@@ -112,7 +112,7 @@ fn touches_variable(t: Step) -> bool
     ensures { λ r. ⌜ r ≡ rowOf (t .func) .variable ⌝ }
 {
     let k = t.func;
-    let w = step::row_of(k);
+    let w = sheet_step::row_of(k);
     w.variable
 }
 

@@ -6,17 +6,17 @@ use mathlib.Core.List.{List, map}
 use Prim.Native.Nat.{ℕ, _<_, _≤_}
 use native.Mathlib.Omega.{arith}
 use lib.ListN.{length, getD, set, length-map}
-use Rattle.lists.specs.Lists.{pad}
-use Rattle.lists.proofs.Build.{never, build-length}
-use Rattle.lists.proofs.Places.{map-set}
-use Rattle.lists.proofs.Pad.{set-pad}
-use Rattle.step.specs.Step.{noStep}
-use Rattle.operator.specs.Op.{Op}
-use Rattle.operator.specs.Memory.{PLACES, view, viewAs, memory, stepsIn, noOperator}
-use Rattle.operator.specs.declared.Kind.{Kind}
-use Rattle.operator.specs.declared.Kind.the-variants.{Empty, Line, Latest, Double, Deal, Gather}
-use Rattle.operator.specs.declared.Operator.{Operator}
-use Rattle.bounds.specs.Bounds.{OPERATORS}
+use Rattle.base_lists.specs.Lists.{pad}
+use Rattle.base_lists.proofs.Build.{never, build-length}
+use Rattle.base_lists.proofs.Places.{map-set}
+use Rattle.base_lists.proofs.Pad.{set-pad}
+use Rattle.sheet_step.specs.Step.{noStep}
+use Rattle.sheet_operator.specs.Op.{Op}
+use Rattle.sheet_operator.specs.Memory.{PLACES, view, viewAs, memory, stepsIn, noOperator}
+use Rattle.sheet_operator.specs.declared.Kind.{Kind}
+use Rattle.sheet_operator.specs.declared.Kind.the-variants.{Empty, Line, Latest, Double, Deal, Gather}
+use Rattle.sheet_operator.specs.declared.Operator.{Operator}
+use Rattle.base_bounds.specs.Bounds.{OPERATORS}
 use Rattle.sheet.proofs.Placed.{places}
 use Rattle.rewrite_rules.specs.Rewrite.{isLine, outOf, stepsOf}
 

@@ -8,11 +8,11 @@ use native.Mathlib.Omega.{arith}
 use lib.Dec.{ltb}
 use lib.ListN.{length, getD}
 use borrow.Author.Tests.{lt-ltb, le-ltb}
-use Rattle.lists.specs.Lists.{member}
-use Rattle.lists.proofs.Build.{never}
-use Rattle.operator.specs.Op.{Op, reads}
-use Rattle.operator.specs.Memory.{PLACES, view}
-use Rattle.bounds.specs.Bounds.{OPERATORS}
+use Rattle.base_lists.specs.Lists.{member}
+use Rattle.base_lists.proofs.Build.{never}
+use Rattle.sheet_operator.specs.Op.{Op, reads}
+use Rattle.sheet_operator.specs.Memory.{PLACES, view}
+use Rattle.base_bounds.specs.Bounds.{OPERATORS}
 use Rattle.sheet.specs.declared.Sheet.{Sheet}
 use Rattle.sheet.specs.Answer.{accepted}
 use Rattle.sheet.specs.Sheet.{opAt, viewSheet, HeldSheet}
@@ -20,10 +20,10 @@ use Rattle.sheet.specs.Check.{checkOf}
 use Rattle.sheet.proofs.Accepted.{ranges-of-accepted}
 use Rattle.sheet.proofs.Placed.{ops-many, ops-at}
 use Rattle.sheet.proofs.InMemory.{operator-back}
-use Rattle.machine.specs.Readers.{readerFrom, readerOf}
-use Rattle.machine.proofs.AbleOf.{able-of-accepted}
-use Rattle.machine.proofs.Asking.{few-operators, reader-place}
-use Rattle.machine.proofs.ReaderLaws.{isRead, reader-found}
+use Rattle.run_machine.specs.Readers.{readerFrom, readerOf}
+use Rattle.run_machine.proofs.AbleOf.{able-of-accepted}
+use Rattle.run_machine.proofs.Asking.{few-operators, reader-place}
+use Rattle.run_machine.proofs.ReaderLaws.{isRead, reader-found}
 use Rattle.rewrite_rules.specs.Rewrite.{Remade, refuse, isLine, outOf, at, nextOf, toLine, ifTwoLines}
 use Rattle.rewrite_rules.specs.Working.{pairNumber, Pair, Follows, TwoLines}
 use Rattle.rewrite_rules.proofs.Lines.{line-out}

@@ -4,13 +4,13 @@ use mathlib.Core.Bool.{Bool, true, false, cond, not, _&&_, _||_}
 use mathlib.Core.List.{List, [], _∷_, _++_, map}
 use lib.Dec.{eqb, ltb, leb}
 use lib.ListN.{length, getD, set, take, drop}
-use Rattle.lists.specs.Lists.{build, all, chain, member}
-use Rattle.step.specs.Step.{rowOf}
-use Rattle.step.specs.declared.Step.{Step}
-use Rattle.operator.specs.Op.{Op, line, latest, double, deal, gather, Abstract}
-use Rattle.operator.specs.Memory.{PLACES}
-use Rattle.bounds.specs.Bounds.{OPERATORS, VARIABLES, QUEUES}
-use Rattle.machine.specs.Readers.{readerFrom}
+use Rattle.base_lists.specs.Lists.{build, all, chain, member}
+use Rattle.sheet_step.specs.Step.{rowOf}
+use Rattle.sheet_step.specs.declared.Step.{Step}
+use Rattle.sheet_operator.specs.Op.{Op, line, latest, double, deal, gather, Abstract}
+use Rattle.sheet_operator.specs.Memory.{PLACES}
+use Rattle.base_bounds.specs.Bounds.{OPERATORS, VARIABLES, QUEUES}
+use Rattle.run_machine.specs.Readers.{readerFrom}
 
 -- the rewritten sheet, or the refusal
 pub data Remade : Type 0 where

@@ -4,10 +4,10 @@ use mathlib.Core.Path.{_≡_}
 use mathlib.Core.Bool.{true, cond, _&&_}
 use lib.Dec.{ltb}
 use lib.ListN.{length}
-use Rattle.operator.specs.Op.{Abstract}
-use Rattle.operator.specs.Memory.{view, memory}
-use Rattle.operator.specs.declared.Operator.{Operator}
-use Rattle.bounds.specs.Bounds.{OPERATORS}
+use Rattle.sheet_operator.specs.Op.{Abstract}
+use Rattle.sheet_operator.specs.Memory.{view, memory}
+use Rattle.sheet_operator.specs.declared.Operator.{Operator}
+use Rattle.base_bounds.specs.Bounds.{OPERATORS}
 use Rattle.sheet.specs.declared.Sheet.{Sheet}
 use Rattle.sheet.specs.Sheet.{opAt, viewSheet}
 use Rattle.rewrite_rules.specs.Rewrite.{isLine, at, nextOf, toLine}

@@ -1,10 +1,10 @@
 // What the rewritings share: their answer, and the line that comes after a line.
-use operator::Kind;
-use operator::Operator;
 use sheet::Answer;
 use sheet::Sheet;
+use sheet_operator::Kind;
+use sheet_operator::Operator;
 ghost use mathlib.Core.Path.{_≡_};
-ghost use Rattle.operator.specs.Memory.{view};
+ghost use Rattle.sheet_operator.specs.Memory.{view};
 ghost use Rattle.sheet.specs.Answer.{accepted};
 ghost use Rattle.sheet.specs.Sheet.{noSheet};
 ghost use Rattle.sheet.specs.Check.{checkOf};

@@ -9,18 +9,18 @@ use native.Mathlib.Omega.{arith}
 use lib.Dec.{leb}
 use lib.ListN.{length, getD, set, length-map, length-append, List·getD-eq-default}
 use borrow.Author.Tests.{le-leb, lt-leb, lt-ltb, le-ltb}
-use Rattle.lists.specs.Lists.{build, pad}
-use Rattle.lists.proofs.Build.{order, upTo, build-length, build-ext, build-all, set-more}
-use Rattle.lists.proofs.Pad.{pad-length, pad-getD, pad-as-build}
-use Rattle.lists.proofs.Places.{getD-any}
-use Rattle.lists.proofs.Insert.{inserted, map-inserted, length-inserted, inserted-before, inserted-in, inserted-past, built-at, last-at}
-use Rattle.step.specs.declared.Step.{Step}
-use Rattle.operator.specs.Op.{Op, line, deal, gather}
-use Rattle.operator.specs.Memory.{PLACES, stepsIn, view, memory, noOperator, Held}
-use Rattle.operator.specs.declared.Kind.the-variants.{Line}
-use Rattle.operator.specs.declared.Operator.{Operator}
-use Rattle.operator.proofs.ViewLaws.{memory-view}
-use Rattle.bounds.specs.Bounds.{OPERATORS}
+use Rattle.base_lists.specs.Lists.{build, pad}
+use Rattle.base_lists.proofs.Build.{order, upTo, build-length, build-ext, build-all, set-more}
+use Rattle.base_lists.proofs.Pad.{pad-length, pad-getD, pad-as-build}
+use Rattle.base_lists.proofs.Places.{getD-any}
+use Rattle.base_lists.proofs.Insert.{inserted, map-inserted, length-inserted, inserted-before, inserted-in, inserted-past, built-at, last-at}
+use Rattle.sheet_step.specs.declared.Step.{Step}
+use Rattle.sheet_operator.specs.Op.{Op, line, deal, gather}
+use Rattle.sheet_operator.specs.Memory.{PLACES, stepsIn, view, memory, noOperator, Held}
+use Rattle.sheet_operator.specs.declared.Kind.the-variants.{Line}
+use Rattle.sheet_operator.specs.declared.Operator.{Operator}
+use Rattle.sheet_operator.proofs.ViewLaws.{memory-view}
+use Rattle.base_bounds.specs.Bounds.{OPERATORS}
 use Rattle.sheet.specs.declared.Sheet.{Sheet}
 use Rattle.sheet.specs.Sheet.{missing, opAt, viewSheet, memorySheet, HeldSheet}
 use Rattle.sheet.proofs.Accepted.{accepted-facts}

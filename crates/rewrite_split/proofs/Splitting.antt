@@ -6,13 +6,13 @@ use Prim.Native.Nat.{ℕ, _+_, _*_, _<_, _≤_}
 use lib.Dec.{ltb, leb}
 use lib.ListN.{length}
 use borrow.Author.Tests.{ltb-true, leb-true}
-use Rattle.lists.specs.Lists.{all}
-use Rattle.lists.proofs.Tests.{both}
-use Rattle.step.specs.declared.Step.{Step}
-use Rattle.operator.specs.Op.{Op, Abstract}
-use Rattle.operator.specs.Memory.{PLACES, stepsIn, view}
-use Rattle.operator.proofs.ViewLaws.{ready-of-number}
-use Rattle.bounds.specs.Bounds.{OPERATORS, VARIABLES, QUEUES}
+use Rattle.base_lists.specs.Lists.{all}
+use Rattle.base_lists.proofs.Tests.{both}
+use Rattle.sheet_step.specs.declared.Step.{Step}
+use Rattle.sheet_operator.specs.Op.{Op, Abstract}
+use Rattle.sheet_operator.specs.Memory.{PLACES, stepsIn, view}
+use Rattle.sheet_operator.proofs.ViewLaws.{ready-of-number}
+use Rattle.base_bounds.specs.Bounds.{OPERATORS, VARIABLES, QUEUES}
 use Rattle.sheet.specs.declared.Sheet.{Sheet}
 use Rattle.sheet.specs.Answer.{accepted}
 use Rattle.sheet.specs.Sheet.{opAt, viewSheet}

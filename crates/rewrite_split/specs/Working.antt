@@ -2,9 +2,9 @@
 use mathlib.Core.Path.{_≡_}
 use Prim.Native.Nat.{ℕ, _+_, _*_, _<_, _≤_}
 use mathlib.Core.Bool.{true}
-use Rattle.operator.specs.Memory.{PLACES, memoryNumber, view}
-use Rattle.operator.specs.declared.Operator.{Operator}
-use Rattle.bounds.specs.Bounds.{OPERATORS, VARIABLES, QUEUES}
+use Rattle.sheet_operator.specs.Memory.{PLACES, memoryNumber, view}
+use Rattle.sheet_operator.specs.declared.Operator.{Operator}
+use Rattle.base_bounds.specs.Bounds.{OPERATORS, VARIABLES, QUEUES}
 use Rattle.sheet.specs.declared.Sheet.{Sheet}
 use Rattle.sheet.specs.Answer.{accepted}
 use Rattle.sheet.specs.Sheet.{opAt}

@@ -1,19 +1,19 @@
 // The split of a line: a deal, copies of the line, and a gather in its place.
-use operator::Kind;
-use operator::Operator;
 use rewrite_rules::Rewritten;
 use sheet::Sheet;
-use step::Step;
+use sheet_operator::Kind;
+use sheet_operator::Operator;
+use sheet_step::Step;
 ghost use mathlib.Core.Path.{_≡_};
 ghost use mathlib.Core.Bool.{cond, _&&_};
 ghost use mathlib.Core.List.{map};
 ghost use Prim.Native.Nat.{_+_, _*_, _-_, _≤_, _<_};
 ghost use lib.Dec.{ltb, leb};
 ghost use lib.ListN.{getD};
-ghost use Rattle.lists.specs.Lists.{build, pad, all};
-ghost use Rattle.operator.specs.Op.{line, deal, gather};
-ghost use Rattle.operator.specs.Memory.{PLACES, stepsIn, view, memory, noOperator};
-ghost use Rattle.bounds.specs.Bounds.{OPERATORS, VARIABLES, QUEUES};
+ghost use Rattle.base_lists.specs.Lists.{build, pad, all};
+ghost use Rattle.sheet_operator.specs.Op.{line, deal, gather};
+ghost use Rattle.sheet_operator.specs.Memory.{PLACES, stepsIn, view, memory, noOperator};
+ghost use Rattle.base_bounds.specs.Bounds.{OPERATORS, VARIABLES, QUEUES};
 ghost use Rattle.sheet.specs.Answer.{accepted};
 ghost use Rattle.sheet.specs.Sheet.{viewSheet, memorySheet};
 ghost use Rattle.sheet.specs.Check.{checkOf};
@@ -24,11 +24,11 @@ ghost use Rattle.rewrite_split.specs.Working.{LineIn, SplitRoom, Splits}
 const FEWEST_WAYS: u8 = 2;
 
 // The n numbers from q on, and then 0.
-fn numbers_from(q: u8, n: usize) -> [u8; operator::PLACES]
+fn numbers_from(q: u8, n: usize) -> [u8; sheet_operator::PLACES]
     requires { ⌜ (n ≤ PLACES) × (q + n ≤ 255) ⌝ }
     ensures { λ r. ⌜ r ≡ pad PLACES 0 (build n (λ j. q + j)) ⌝ }
 {
-    let mut r = [0; operator::PLACES];
+    let mut r = [0; sheet_operator::PLACES];
     let mut j = 0;
     while j < n {
         r[j] = q + (j as u8);
@@ -50,7 +50,7 @@ fn dealing(v: u8, p: u8, q: u8, k: u8) -> Operator
         field: 0,
         ins: [p, 0, 0, 0],
         outs,
-        steps: [step::NO_STEP; operator::PLACES],
+        steps: [sheet_step::NO_STEP; sheet_operator::PLACES],
     }
 }
 
@@ -67,7 +67,7 @@ fn gathering(v: u8, q: u8, p: u8, k: u8) -> Operator
         field: 0,
         ins,
         outs: [q, 0, 0, 0],
-        steps: [step::NO_STEP; operator::PLACES],
+        steps: [sheet_step::NO_STEP; sheet_operator::PLACES],
     }
 }
 
@@ -157,14 +157,14 @@ fn step_free(t: Step) -> bool
     ensures { λ r. ⌜ r ≡ (touchesNone t && writesSome t) ⌝ }
 {
     let f = t.func;
-    let w = step::row_of(f);
+    let w = sheet_step::row_of(f);
     if w.variable {
         return false;
     }
     w.writes != 0
 }
 
-fn steps_free(ss: [Step; operator::PLACES], n: usize) -> bool
+fn steps_free(ss: [Step; sheet_operator::PLACES], n: usize) -> bool
     requires { ⌜ n ≤ PLACES ⌝ }
     ensures { λ r. ⌜ r ≡ all (λ t. touchesNone t && writesSome t) (stepsIn n ss) ⌝ }
 {
@@ -189,7 +189,7 @@ fn in_range(count: u8, a: u8, k: u8) -> bool
     if k < FEWEST_WAYS {
         return false;
     }
-    k as usize <= operator::PLACES
+    k as usize <= sheet_operator::PLACES
 }
 
 // The head of the new sheet stays in its ranges.
@@ -197,10 +197,10 @@ fn has_room(queues: u8, variables: u8, count: u8, k: u8) -> bool
     ensures { λ r. ⌜ r ≡ (leb (queues + 2 * k) QUEUES && (leb (variables + 2) VARIABLES && leb (count + k + 1) OPERATORS)) ⌝ }
 {
     let ways = k as usize;
-    if machine::QUEUES < queues as usize + 2 * ways {
+    if run_machine::QUEUES < queues as usize + 2 * ways {
         return false;
     }
-    if machine::VARIABLES < variables as usize + 2 {
+    if run_machine::VARIABLES < variables as usize + 2 {
         return false;
     }
     count as usize + ways + 1 <= sheet::OPERATORS

@@ -8,23 +8,23 @@ use native.Mathlib.Omega.{arith}
 use lib.Dec.{eqb, ltb}
 use lib.ListN.{getD}
 use borrow.Author.Tests.{eq-eqb, ne-eqb}
-use Rattle.lists.specs.Lists.{bit}
-use Rattle.operator.specs.Op.{Op, double}
-use Rattle.operator.specs.Memory.{view}
-use Rattle.bounds.specs.Bounds.{OPERATORS, QUEUES}
-use Rattle.effect.specs.Effect.{effect, waits}
+use Rattle.base_lists.specs.Lists.{bit}
+use Rattle.sheet_operator.specs.Op.{Op, double}
+use Rattle.sheet_operator.specs.Memory.{view}
+use Rattle.base_bounds.specs.Bounds.{OPERATORS, QUEUES}
+use Rattle.run_effect.specs.Effect.{effect, waits}
 use Rattle.sheet.specs.declared.Sheet.{Sheet}
 use Rattle.sheet.specs.Answer.{accepted}
 use Rattle.sheet.specs.Sheet.{opAt, viewSheet}
 use Rattle.sheet.specs.Check.{checkOf}
-use Rattle.store.specs.declared.Item.{Item}
-use Rattle.machine.specs.Machine.{Machine, Outcome, refuse, done, full, commit, fireFrom, fireOp}
-use Rattle.machine.specs.Ready.{SET, accepts, readyAt, bitsFrom, readySet}
-use Rattle.machine.specs.Working.{refusalOf, fireFound}
-use Rattle.machine.specs.Readers.{readersOf}
-use Rattle.machine.proofs.Found.{reads-in-table, fire-as-found}
-use Rattle.machine.proofs.ReaderLaws.{unread-past, fire-unread}
-use Rattle.machine.proofs.ReadyLaws.{bits-none, bits-down, bits-fit}
+use Rattle.run_store.specs.declared.Item.{Item}
+use Rattle.run_machine.specs.Machine.{Machine, Outcome, refuse, done, full, commit, fireFrom, fireOp}
+use Rattle.run_machine.specs.Ready.{SET, accepts, readyAt, bitsFrom, readySet}
+use Rattle.run_machine.specs.Working.{refusalOf, fireFound}
+use Rattle.run_machine.specs.Readers.{readersOf}
+use Rattle.run_machine.proofs.Found.{reads-in-table, fire-as-found}
+use Rattle.run_machine.proofs.ReaderLaws.{unread-past, fire-unread}
+use Rattle.run_machine.proofs.ReadyLaws.{bits-none, bits-down, bits-fit}
 
 -- ---- one queue's bit
 

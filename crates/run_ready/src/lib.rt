@@ -1,16 +1,16 @@
 // The ready set where sheet, state and store are good: each queue's reader is tried, and nothing is touched.
-use machine::State;
-use operator::Operator;
+use run_machine::State;
 use sheet::Sheet;
+use sheet_operator::Operator;
 ghost use mathlib.Core.Path.{_≡_};
 ghost use mathlib.Core.Bool.{true};
 ghost use Prim.Native.Nat.{_≤_};
-ghost use Rattle.lists.specs.Lists.{bit};
-ghost use Rattle.operator.specs.Memory.{view};
-ghost use Rattle.machine.specs.Ready.{accepts};
-ghost use Rattle.machine.specs.Numbers.{decode};
-ghost use Rattle.machine.specs.Calls.{readyKnown};
-ghost use Rattle.machine.specs.Working.{Stands, CanFire, fireFound};
+ghost use Rattle.base_lists.specs.Lists.{bit};
+ghost use Rattle.sheet_operator.specs.Memory.{view};
+ghost use Rattle.run_machine.specs.Ready.{accepts};
+ghost use Rattle.run_machine.specs.Numbers.{decode};
+ghost use Rattle.run_machine.specs.Calls.{readyKnown};
+ghost use Rattle.run_machine.specs.Working.{Stands, CanFire, fireFound};
 
 // 1 where firing the operator that was found from queue q would be accepted, else 0.
 fn ready_bit(found: bool, o: Operator, q: u8, state: State, store: &[i32]) -> u32
@@ -20,7 +20,7 @@ fn ready_bit(found: bool, o: Operator, q: u8, state: State, store: &[i32]) -> u3
     if !found {
         return 0;
     }
-    let a = machine::try_operator(o, q, state, store);
+    let a = run_machine::try_operator(o, q, state, store);
     if a.number == 0 { 1 } else { 0 }
 }
 
@@ -29,12 +29,12 @@ pub fn ready_known(t: Sheet, state: State, store: &[i32]) -> u32
     requires { ⌜ Stands t state (now store) ⌝ }
     ensures { λ r. ⌜ r ≡ readyKnown t state (now (store .entry)) ⌝ }
 {
-    let rs = reader::readers(t);
+    let rs = run_reader::readers(t);
     let mut set: u32 = 0;
-    let mut q: u8 = bounds::QUEUES;
+    let mut q: u8 = base_bounds::QUEUES;
     while 0 < q {
         q -= 1;
-        let i = reader::reader_at(rs, q);
+        let i = run_reader::reader_at(rs, q);
         let o = t.operators[i % sheet::OPERATORS];
         let b = ready_bit(i < sheet::OPERATORS, o, q, state, store);
         set = 2 * set + b;

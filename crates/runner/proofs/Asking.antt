@@ -6,15 +6,15 @@ use mathlib.Core.List.{List}
 use Prim.Native.Nat.{ℕ, _<_, _≤_}
 use lib.ListN.{getD}
 use borrow.Author.Tests.{lt-ltb, le-ltb}
-use Rattle.bounds.specs.Bounds.{OPERATORS}
+use Rattle.base_bounds.specs.Bounds.{OPERATORS}
 use Rattle.sheet.specs.declared.Answer.{Answer}
 use Rattle.sheet.specs.declared.Answer.the-variants.{Done, Refused}
 use Rattle.sheet.specs.declared.Sheet.{Sheet}
 use Rattle.sheet.specs.Answer.{accepted, isAccepted, paper}
 use Rattle.sheet.specs.Sheet.{viewSheet}
 use Rattle.sheet.specs.Check.{checkOf}
-use Rattle.machine.specs.Readers.{readersOf, readerAt, ReaderCall, readerOf, ReaderAnswers}
-use Rattle.machine.proofs.Asking.{reader-by-table, reader-asked}
+use Rattle.run_machine.specs.Readers.{readersOf, readerAt, ReaderCall, readerOf, ReaderAnswers}
+use Rattle.run_machine.proofs.Asking.{reader-by-table, reader-asked}
 
 reader-answers : (c : ReaderCall) (x : Answer) (i : ℕ) → c ≡ record { answer = paper x; place = i } → ReaderAnswers c x i
 reader-answers c x i e = record { answered = sym (ap (λ (d : ReaderCall). d .answer) e); placed = sym (ap (λ (d : ReaderCall). d .place) e) }

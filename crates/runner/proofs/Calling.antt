@@ -13,17 +13,17 @@ use Rattle.sheet.specs.Answer.{accepted, isAccepted, paper}
 use Rattle.sheet.specs.Sheet.{viewSheet}
 use Rattle.sheet.specs.Check.{checkOf}
 use Rattle.sheet.proofs.AnswerLaws.{both-stand}
-use Rattle.store.specs.declared.Item.{Item}
-use Rattle.machine.specs.declared.ReadySet.{ReadySet}
-use Rattle.machine.specs.declared.State.{State}
-use Rattle.machine.specs.declared.TakenItem.{TakenItem}
-use Rattle.machine.specs.Ready.{SET}
-use Rattle.machine.specs.Numbers.{good}
-use Rattle.machine.specs.Calls.{Call, TakeCall, RunCall, ReadyCall, noItem, unchanged, standsOf, readyCall, fireKnown, feedKnown, takeKnown, runKnown}
-use Rattle.machine.specs.Calls.{readyKnown, fireOf, feedOf, takeOf, runOf, readyOf}
-use Rattle.machine.specs.Answers.{Answers, TakeAnswers, RunAnswers, ReadyAnswers}
-use Rattle.machine.specs.Working.{Stands}
-use Rattle.calls.proofs.Taking.{no-take-answers}
+use Rattle.run_store.specs.declared.Item.{Item}
+use Rattle.run_machine.specs.declared.ReadySet.{ReadySet}
+use Rattle.run_machine.specs.declared.State.{State}
+use Rattle.run_machine.specs.declared.TakenItem.{TakenItem}
+use Rattle.run_machine.specs.Ready.{SET}
+use Rattle.run_machine.specs.Numbers.{good}
+use Rattle.run_machine.specs.Calls.{Call, TakeCall, RunCall, ReadyCall, noItem, unchanged, standsOf, readyCall, fireKnown, feedKnown, takeKnown, runKnown}
+use Rattle.run_machine.specs.Calls.{readyKnown, fireOf, feedOf, takeOf, runOf, readyOf}
+use Rattle.run_machine.specs.Answers.{Answers, TakeAnswers, RunAnswers, ReadyAnswers}
+use Rattle.run_machine.specs.Working.{Stands}
+use Rattle.run_calls.proofs.Taking.{no-take-answers}
 
 -- a call that changes nothing, answered
 unchanged-answers : (c : Call) (x : Answer) (st : State) (s : List ℤ) → c ≡ unchanged (paper x) st s → Answers c x st s

@@ -4,7 +4,7 @@ use mathlib.Core.Path.{_≡_, sym, _∙_}
 use Prim.Native.Nat.{ℕ}
 use Rattle.sheet.specs.declared.Answer.{Answer}
 use Rattle.sheet.proofs.AnswerLaws.{paper-injective}
-use Rattle.machine.specs.Readers.{ReaderCall, ReaderAnswers}
+use Rattle.run_machine.specs.Readers.{ReaderCall, ReaderAnswers}
 use Rattle.runner.specs.declared.Reader.{Reader}
 
 reader-eq : {a a' : Answer} {i i' : ℕ} → a ≡ a' → i ≡ i' → _≡_ {A = Reader} (record { answer = a; place = i }) (record { answer = a'; place = i' })

@@ -6,18 +6,18 @@ use mathlib.Core.List.{List}
 use Prim.Native.Nat.{ℕ}
 use native.Mathlib.Omega.{arith}
 use lib.IntN.{ℤ}
-use Rattle.operator.specs.Op.{double}
+use Rattle.sheet_operator.specs.Op.{double}
 use Rattle.sheet.specs.declared.Sheet.{Sheet}
 use Rattle.sheet.specs.Answer.{isAccepted}
 use Rattle.sheet.specs.Sheet.{viewSheet}
-use Rattle.machine.specs.declared.State.{State}
-use Rattle.machine.specs.Machine.{Outcome, refuse, done, fireM}
-use Rattle.machine.specs.Ready.{accepts, readySet}
-use Rattle.machine.specs.Numbers.{decode}
-use Rattle.machine.specs.Calls.{saved, fireOf, readyOf}
-use Rattle.machine.specs.Working.{Stands}
-use Rattle.machine.proofs.Found.{reads-in-table}
-use Rattle.machine.proofs.ReadyLaws.{ready-rest, rest-ready}
+use Rattle.run_machine.specs.declared.State.{State}
+use Rattle.run_machine.specs.Machine.{Outcome, refuse, done, fireM}
+use Rattle.run_machine.specs.Ready.{accepts, readySet}
+use Rattle.run_machine.specs.Numbers.{decode}
+use Rattle.run_machine.specs.Calls.{saved, fireOf, readyOf}
+use Rattle.run_machine.specs.Working.{Stands}
+use Rattle.run_machine.proofs.Found.{reads-in-table}
+use Rattle.run_machine.proofs.ReadyLaws.{ready-rest, rest-ready}
 
 saved-accepted : (st : State) (s : List ℤ) (o : Outcome) → isAccepted (saved st s o .answer) ≡ accepts o
 saved-accepted st s (refuse k) = refl

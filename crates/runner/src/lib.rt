@@ -1,26 +1,26 @@
 // The runner: fresh, feed, take, fire, run and the ready set, on any sheet, state and store.
-use machine::Called;
-use machine::ReadySet;
-use machine::RunEnd;
-use machine::State;
-use machine::TakenItem;
+use run_machine::Called;
+use run_machine::ReadySet;
+use run_machine::RunEnd;
+use run_machine::State;
+use run_machine::TakenItem;
+use run_store::Item;
 use sheet::Answer;
 use sheet::Sheet;
-use store::Item;
 ghost use mathlib.Core.Path.{_≡_};
 ghost use lib.Count.{ones, trailingZeros};
-ghost use Rattle.machine.specs.Ready.{SET};
-ghost use Rattle.machine.specs.Calls.{fireOf, feedOf, takeOf, runOf, readyOf, freshOf};
-ghost use Rattle.machine.specs.Answers.{Answers, TakeAnswers, RunAnswers, ReadyAnswers};
-ghost use Rattle.machine.specs.Readers.{readerOf, ReaderAnswers};
+ghost use Rattle.run_machine.specs.Ready.{SET};
+ghost use Rattle.run_machine.specs.Calls.{fireOf, feedOf, takeOf, runOf, readyOf, freshOf};
+ghost use Rattle.run_machine.specs.Answers.{Answers, TakeAnswers, RunAnswers, ReadyAnswers};
+ghost use Rattle.run_machine.specs.Readers.{readerOf, ReaderAnswers};
 
 // Fires the operator that reads queue q.
 pub fn fire(t: Sheet, state: State, store: &mut [i32], q: u8) -> Called
     ensures { λ r. ⌜ Answers (fireOf t state (now (store .entry)) q) (r .answer) (r .state) (now (store .exit)) ⌝ }
 {
-    let a = standing::stands(t, state, &*store);
+    let a = run_standing::stands(t, state, &*store);
     match a {
-        Answer::Done => calls::fire_known(t, q, state, &mut *store),
+        Answer::Done => run_calls::fire_known(t, q, state, &mut *store),
         Answer::RefusedAt { number, spot } => Called {
             answer: Answer::RefusedAt { number, spot },
             state,
@@ -36,9 +36,9 @@ pub fn fire(t: Sheet, state: State, store: &mut [i32], q: u8) -> Called
 pub fn feed(t: Sheet, state: State, store: &mut [i32], q: u8, x: Item) -> Called
     ensures { λ r. ⌜ Answers (feedOf t state (now (store .entry)) q x) (r .answer) (r .state) (now (store .exit)) ⌝ }
 {
-    let a = standing::stands(t, state, &*store);
+    let a = run_standing::stands(t, state, &*store);
     match a {
-        Answer::Done => calls::feed_known(t, q, x, state, &mut *store),
+        Answer::Done => run_calls::feed_known(t, q, x, state, &mut *store),
         Answer::RefusedAt { number, spot } => Called {
             answer: Answer::RefusedAt { number, spot },
             state,
@@ -54,14 +54,14 @@ pub fn feed(t: Sheet, state: State, store: &mut [i32], q: u8, x: Item) -> Called
 pub fn take(t: Sheet, state: State, store: &mut [i32], q: u8) -> TakenItem
     ensures { λ r. ⌜ TakeAnswers (takeOf t state (now (store .entry)) q) (r .answer) (r .item) (r .state) (now (store .exit)) ⌝ }
 {
-    let a = standing::stands(t, state, &*store);
+    let a = run_standing::stands(t, state, &*store);
     match a {
-        Answer::Done => calls::take_known(t, q, state, &mut *store),
-        Answer::RefusedAt { number, spot } => calls::no_take(
+        Answer::Done => run_calls::take_known(t, q, state, &mut *store),
+        Answer::RefusedAt { number, spot } => run_calls::no_take(
             Answer::RefusedAt { number, spot },
             state,
         ),
-        Answer::Refused { number } => calls::no_take(Answer::Refused { number }, state),
+        Answer::Refused { number } => run_calls::no_take(Answer::Refused { number }, state),
     }
 }
 
@@ -70,9 +70,9 @@ pub fn run(t: Sheet, state: State, store: &mut [i32], list: &[u8]) -> RunEnd
     ensures { λ r. ⌜ RunAnswers (runOf t state (now (store .entry)) (now (list .entry)))
         (r .answer) (r .fired) (r .skipped) (r .state) (now (store .exit)) ⌝ }
 {
-    let a = standing::stands(t, state, &*store);
+    let a = run_standing::stands(t, state, &*store);
     match a {
-        Answer::Done => calls::run_known(t, state, &mut *store, list),
+        Answer::Done => run_calls::run_known(t, state, &mut *store, list),
         Answer::RefusedAt { number, spot } => RunEnd {
             answer: Answer::RefusedAt { number, spot },
             fired: 0,
@@ -103,7 +103,7 @@ fn ready_answer(answer: Answer, set: u32) -> ReadySet
 pub fn ready(t: Sheet, state: State, store: &[i32]) -> ReadySet
     ensures { λ r. ⌜ ReadyAnswers (readyOf t state (now (store .entry))) r ⌝ }
 {
-    let a = standing::stands(t, state, store);
+    let a = run_standing::stands(t, state, store);
     match a {
         Answer::Done => {
             let set = run_ready::ready_known(t, state, store);
@@ -118,15 +118,15 @@ pub fn ready(t: Sheet, state: State, store: &[i32]) -> ReadySet
 pub fn fresh(state: State, store: &mut [i32]) -> Called
     ensures { λ r. ⌜ Answers (freshOf state (now (store .entry))) (r .answer) (r .state) (now (store .exit)) ⌝ }
 {
-    if store.len() != machine::STORE {
-        return machine::no(8, state);
+    if store.len() != run_machine::STORE {
+        return run_machine::no(8, state);
     }
-    store::clear(&mut *store);
+    run_store::clear(&mut *store);
     Called {
         answer: Answer::Done,
         state: State {
-            counts: [0; machine::QUEUES],
-            vars: [0; machine::VARIABLES],
+            counts: [0; run_machine::QUEUES],
+            vars: [0; run_machine::VARIABLES],
         },
     }
 }
@@ -144,8 +144,8 @@ pub fn reader_of(t: Sheet, q: u8) -> Reader
     let a = sheet::check(t);
     match a {
         Answer::Done => {
-            let readers = reader::readers(t);
-            let place = reader::reader_at(readers, q);
+            let readers = run_reader::readers(t);
+            let place = run_reader::reader_at(readers, q);
             if place < sheet::OPERATORS {
                 return Reader {
                     answer: Answer::Done,

@@ -9,13 +9,13 @@ use native.Mathlib.Nat.{zero-add}
 use native.Mathlib.Omega.{arith}
 use lib.Dec.{ltb}
 use borrow.Author.Tests.{lt-ltb, le-ltb}
-use Rattle.lists.proofs.Build.{order, build-length}
-use Rattle.lists.proofs.Tests.{all-build, all-build-of}
-use Rattle.operator.specs.Memory.{view, memoryNumber, vacant}
-use Rattle.judge.specs.Judge.{known, judge, whole}
-use Rattle.format.specs.Head.{headGood}
-use Rattle.bounds.specs.Bounds.{OPERATORS}
-use Rattle.format.proofs.Heads.{HeadRanges, ranges-of-good}
+use Rattle.base_lists.proofs.Build.{order, build-length}
+use Rattle.base_lists.proofs.Tests.{all-build, all-build-of}
+use Rattle.sheet_operator.specs.Memory.{view, memoryNumber, vacant}
+use Rattle.sheet_judge.specs.Judge.{known, judge, whole}
+use Rattle.sheet_format.specs.Head.{headGood}
+use Rattle.base_bounds.specs.Bounds.{OPERATORS}
+use Rattle.sheet_format.proofs.Heads.{HeadRanges, ranges-of-good}
 use Rattle.sheet.specs.declared.Sheet.{Sheet}
 use Rattle.sheet.specs.Answer.{accepted, refusedAt, refused}
 use Rattle.sheet.specs.Sheet.{opAt, viewTo, viewSheet}

@@ -5,7 +5,7 @@ use mathlib.Core.Bool.{Bool, true, false, cond}
 use mathlib.Core.Option.{Option, some, none}
 use Prim.Native.Nat.{ℕ}
 use native.Mathlib.Omega.{arith}
-use Rattle.lists.proofs.Build.{never}
+use Rattle.base_lists.proofs.Build.{never}
 use Rattle.sheet.specs.declared.Answer.{Answer}
 use Rattle.sheet.specs.declared.Answer.the-variants.{Done, RefusedAt, Refused}
 use Rattle.sheet.specs.Answer.{Paper, accepted, refusedAt, refused, isAccepted, paper}

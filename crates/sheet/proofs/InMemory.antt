@@ -8,13 +8,13 @@ use native.Mathlib.Omega.{arith}
 use lib.ListN.{getD}
 use lib.Seq.{ext-getD}
 use mir.Val.{Val}
-use Rattle.lists.proofs.Build.{order}
-use Rattle.lists.proofs.Pad.{pad-length}
-use Rattle.operator.specs.declared.Operator.{Operator}
-use Rattle.operator.specs.Memory.{view, memory, noOperator}
-use Rattle.operator.proofs.ViewLaws.{memory-view, vacant-is}
-use Rattle.operator.proofs.Held.{Owned, held-all}
-use Rattle.bounds.specs.Bounds.{OPERATORS}
+use Rattle.base_lists.proofs.Build.{order}
+use Rattle.base_lists.proofs.Pad.{pad-length}
+use Rattle.sheet_operator.specs.declared.Operator.{Operator}
+use Rattle.sheet_operator.specs.Memory.{view, memory, noOperator}
+use Rattle.sheet_operator.proofs.ViewLaws.{memory-view, vacant-is}
+use Rattle.sheet_operator.proofs.Held.{Owned, held-all}
+use Rattle.base_bounds.specs.Bounds.{OPERATORS}
 use Rattle.sheet.specs.declared.Sheet.{Sheet}
 use Rattle.sheet.specs.Answer.{accepted}
 use Rattle.sheet.specs.Sheet.{missing, opAt, viewSheet, memorySheet, HeldSheet}

@@ -9,18 +9,18 @@ use native.Mathlib.Numerals.{add-one}
 use native.Mathlib.Omega.{arith}
 use lib.Dec.{ltb}
 use borrow.Author.Tests.{ltb-true}
-use Rattle.lists.specs.Lists.{build, any, member, chain, times}
-use Rattle.lists.proofs.Build.{order, never}
-use Rattle.lists.proofs.Tests.{or-cases, all-build, member-append, member-chain, any-build, any-build-none}
-use Rattle.lists.proofs.Times.{times-member, once-more, times-below}
-use Rattle.lists.proofs.Chains.{chain-snoc}
-use Rattle.lists.proofs.Members.{member-below}
-use Rattle.operator.specs.Op.{Op, Abstract, reads, defines, names, cursors}
-use Rattle.operator.specs.Memory.{view, tidy, vacant, noOperator, Held}
-use Rattle.operator.proofs.ViewLaws.{tidy-of-number, vacant-is}
-use Rattle.judge.specs.Judge.{known, four, five, six, whole}
-use Rattle.judge.proofs.JudgedLaws.{judged-four, judged-five, judged-six}
-use Rattle.bounds.specs.Bounds.{OPERATORS}
+use Rattle.base_lists.specs.Lists.{build, any, member, chain, times}
+use Rattle.base_lists.proofs.Build.{order, never}
+use Rattle.base_lists.proofs.Tests.{or-cases, all-build, member-append, member-chain, any-build, any-build-none}
+use Rattle.base_lists.proofs.Times.{times-member, once-more, times-below}
+use Rattle.base_lists.proofs.Chains.{chain-snoc}
+use Rattle.base_lists.proofs.Members.{member-below}
+use Rattle.sheet_operator.specs.Op.{Op, Abstract, reads, defines, names, cursors}
+use Rattle.sheet_operator.specs.Memory.{view, tidy, vacant, noOperator, Held}
+use Rattle.sheet_operator.proofs.ViewLaws.{tidy-of-number, vacant-is}
+use Rattle.sheet_judge.specs.Judge.{known, four, five, six, whole}
+use Rattle.sheet_judge.proofs.JudgedLaws.{judged-four, judged-five, judged-six}
+use Rattle.base_bounds.specs.Bounds.{OPERATORS}
 use Rattle.sheet.specs.declared.Sheet.{Sheet}
 use Rattle.sheet.specs.Answer.{accepted}
 use Rattle.sheet.specs.Sheet.{opAt, viewTo, viewSheet}

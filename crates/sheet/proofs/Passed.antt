@@ -5,11 +5,11 @@ use mathlib.Core.Bool.{true, false, not, _&&_}
 use Prim.Native.Nat.{ℕ, _<_}
 use lib.Dec.{ltb}
 use borrow.Author.Tests.{ltb-true, not-true}
-use Rattle.lists.specs.Lists.{all, member, fresh}
-use Rattle.lists.proofs.Tests.{both, all-member}
-use Rattle.operator.specs.Op.{Op, reads, defines, names, cursors}
-use Rattle.judge.specs.Judge.{Known, four, five, six, variablesGood}
-use Rattle.judge.proofs.JudgedLaws as judged
+use Rattle.base_lists.specs.Lists.{all, member, fresh}
+use Rattle.base_lists.proofs.Tests.{both, all-member}
+use Rattle.sheet_operator.specs.Op.{Op, reads, defines, names, cursors}
+use Rattle.sheet_judge.specs.Judge.{Known, four, five, six, variablesGood}
+use Rattle.sheet_judge.proofs.JudgedLaws as judged
 
 -- 4
 four-parts : (Q : ℕ) (k : Known) (o : Op) → four Q k o ≡ true →

@@ -7,17 +7,17 @@ use Prim.Native.Nat.{ℕ, _<_, _≤_}
 use native.Mathlib.Omega.{arith}
 use lib.ListN.{length, getD, take, length-map, List·getD-eq-default, List·getD-map}
 use lib.Seq.{take-length}
-use Rattle.lists.specs.Lists.{pad}
-use Rattle.lists.proofs.Build.{build-length, build-getD, build-ext, take-build}
-use Rattle.lists.proofs.Pad.{pad-length, pad-getD}
-use Rattle.lists.proofs.Places.{getD-any}
-use Rattle.operator.specs.Op.{Op, double, Abstract}
-use Rattle.operator.specs.declared.Operator.{Operator}
-use Rattle.operator.specs.Memory.{view, memory, memoryNumber, vacant, noOperator}
-use Rattle.operator.proofs.ViewLaws.{Small, view-memory, number-memory, vacant-no-operator}
-use Rattle.judge.specs.Judge.{known, judge, whole}
-use Rattle.format.specs.Head.{headGood}
-use Rattle.bounds.specs.Bounds.{OPERATORS}
+use Rattle.base_lists.specs.Lists.{pad}
+use Rattle.base_lists.proofs.Build.{build-length, build-getD, build-ext, take-build}
+use Rattle.base_lists.proofs.Pad.{pad-length, pad-getD}
+use Rattle.base_lists.proofs.Places.{getD-any}
+use Rattle.sheet_operator.specs.Op.{Op, double, Abstract}
+use Rattle.sheet_operator.specs.declared.Operator.{Operator}
+use Rattle.sheet_operator.specs.Memory.{view, memory, memoryNumber, vacant, noOperator}
+use Rattle.sheet_operator.proofs.ViewLaws.{Small, view-memory, number-memory, vacant-no-operator}
+use Rattle.sheet_judge.specs.Judge.{known, judge, whole}
+use Rattle.sheet_format.specs.Head.{headGood}
+use Rattle.base_bounds.specs.Bounds.{OPERATORS}
 use Rattle.sheet.specs.declared.Sheet.{Sheet}
 use Rattle.sheet.specs.Sheet.{missing, opAt, viewTo, viewSheet, memorySheet}
 use Rattle.sheet.proofs.Accepted.{Accepted}

@@ -9,12 +9,12 @@ use native.Mathlib.Omega.{arith}
 use lib.Dec.{eqb}
 use lib.ListN.{length}
 use borrow.Author.Tests.{eq-eqb, ne-eqb}
-use Rattle.lists.proofs.Build.{build-length, build-snoc, same-or}
-use Rattle.lists.proofs.Tests.{cond-le}
-use Rattle.operator.specs.Op.{Op, Abstract, with}
-use Rattle.operator.specs.Memory.{view, memoryNumber, isEmpty, tidy}
-use Rattle.operator.specs.declared.Operator.{Operator}
-use Rattle.judge.specs.Judge.{Known, four, five, six, seven, judgeBy, judge, known}
+use Rattle.base_lists.proofs.Build.{build-length, build-snoc, same-or}
+use Rattle.base_lists.proofs.Tests.{cond-le}
+use Rattle.sheet_operator.specs.Op.{Op, Abstract, with}
+use Rattle.sheet_operator.specs.Memory.{view, memoryNumber, isEmpty, tidy}
+use Rattle.sheet_operator.specs.declared.Operator.{Operator}
+use Rattle.sheet_judge.specs.Judge.{Known, four, five, six, seven, judgeBy, judge, known}
 use Rattle.sheet.specs.declared.Sheet.{Sheet}
 use Rattle.sheet.specs.Sheet.{opAt, viewTo}
 use Rattle.sheet.specs.Check.{stopped, kept, numberIn, checkFrom}

@@ -4,13 +4,13 @@ use mathlib.Core.Bool.{Bool, cond, not, _||_}
 use mathlib.Core.List.{List, []}
 use lib.Dec.{eqb, ltb}
 use lib.ListN.{length}
-use Rattle.lists.specs.Lists.{build, all}
-use Rattle.operator.specs.Op.{Abstract, with}
-use Rattle.operator.specs.Memory.{view, memoryNumber, vacant}
-use Rattle.operator.specs.declared.Operator.{Operator}
-use Rattle.judge.specs.Judge.{known, judge, whole}
-use Rattle.format.specs.Head.{headGood}
-use Rattle.bounds.specs.Bounds.{OPERATORS}
+use Rattle.base_lists.specs.Lists.{build, all}
+use Rattle.sheet_operator.specs.Op.{Abstract, with}
+use Rattle.sheet_operator.specs.Memory.{view, memoryNumber, vacant}
+use Rattle.sheet_operator.specs.declared.Operator.{Operator}
+use Rattle.sheet_judge.specs.Judge.{known, judge, whole}
+use Rattle.sheet_format.specs.Head.{headGood}
+use Rattle.base_bounds.specs.Bounds.{OPERATORS}
 use Rattle.sheet.specs.declared.Sheet.{Sheet}
 use Rattle.sheet.specs.Answer.{Paper, accepted, refusedAt}
 use Rattle.sheet.specs.Sheet.{opAt, viewTo}

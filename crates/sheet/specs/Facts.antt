@@ -1,8 +1,8 @@
 -- What a sheet's operators define and read, in order, for the laws of accepted sheets.
 use Prim.Native.Nat.{ℕ}
 use mathlib.Core.List.{List, _++_}
-use Rattle.lists.specs.Lists.{build, chain}
-use Rattle.operator.specs.Op.{Abstract, reads, defines}
+use Rattle.base_lists.specs.Lists.{build, chain}
+use Rattle.sheet_operator.specs.Op.{Abstract, reads, defines}
 
 -- every queue that the head or an operator defines, once for each time that it does
 abbrev pub definedBy : Abstract → List ℕ

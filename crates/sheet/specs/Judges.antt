@@ -1,8 +1,8 @@
 -- What judging the operators in memory answers, against the definition.
 use mathlib.Core.Path.{_≡_}
 use mathlib.Core.List.{[]}
-use Rattle.judge.specs.Judge.{known}
-use Rattle.judge.specs.Seen.{knownBy}
+use Rattle.sheet_judge.specs.Judge.{known}
+use Rattle.sheet_judge.specs.Seen.{knownBy}
 use Rattle.sheet.specs.declared.Judged.{Judged}
 use Rattle.sheet.specs.declared.Sheet.{Sheet}
 use Rattle.sheet.specs.Sheet.{viewTo, viewSheet}

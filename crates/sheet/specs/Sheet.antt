@@ -3,12 +3,12 @@ use mathlib.Core.Path.{_≡_}
 use Prim.Native.Nat.{ℕ, _<_}
 use mathlib.Core.List.{[], map}
 use lib.ListN.{length, getD}
-use Rattle.lists.specs.Lists.{build, pad}
-use Rattle.operator.specs.Op.{Abstract}
-use Rattle.operator.specs.Memory.{view, memory, noOperator, Held}
-use Rattle.operator.specs.declared.Kind.the-variants.{Empty}
-use Rattle.operator.specs.declared.Operator.{Operator}
-use Rattle.bounds.specs.Bounds.{OPERATORS}
+use Rattle.base_lists.specs.Lists.{build, pad}
+use Rattle.sheet_operator.specs.Op.{Abstract}
+use Rattle.sheet_operator.specs.Memory.{view, memory, noOperator, Held}
+use Rattle.sheet_operator.specs.declared.Kind.the-variants.{Empty}
+use Rattle.sheet_operator.specs.declared.Operator.{Operator}
+use Rattle.base_bounds.specs.Bounds.{OPERATORS}
 use Rattle.sheet.specs.declared.Sheet.{Sheet}
 
 -- the operator at a place (past the end of the array, where nothing reads, one with no places)

@@ -1,17 +1,17 @@
 // A sheet in memory, and its check.
-use judge::Seen;
-use operator::Operator;
+use sheet_judge::Seen;
+use sheet_operator::Operator;
 ghost use mathlib.Core.Path.{_≡_};
 ghost use mathlib.Core.Bool.{true, _||_};
 ghost use lib.Dec.{ltb};
-ghost use Rattle.operator.specs.Memory.{vacant};
-ghost use Rattle.format.specs.Head.{headGood};
+ghost use Rattle.sheet_operator.specs.Memory.{vacant};
+ghost use Rattle.sheet_format.specs.Head.{headGood};
 ghost use Rattle.sheet.specs.Answer.{paper};
 ghost use Rattle.sheet.specs.Sheet.{noSheet};
 ghost use Rattle.sheet.specs.Check.{vacantFrom, checkOf};
 ghost use Rattle.sheet.specs.Judges.{Judges};
 
-pub const OPERATORS: usize = bounds::OPERATORS as usize;
+pub const OPERATORS: usize = base_bounds::OPERATORS as usize;
 
 pub struct Sheet {
     pub inputs: u8,
@@ -39,7 +39,7 @@ pub struct Judged {
 pub fn no_sheet() -> Sheet
     ensures { λ r. ⌜ r ≡ noSheet ⌝ }
 {
-    let operators = [decode::NO_OPERATOR; OPERATORS];
+    let operators = [sheet_decode::NO_OPERATOR; OPERATORS];
     Sheet {
         inputs: 0,
         queues: 0,
@@ -57,16 +57,16 @@ fn judge_operators(t: Sheet) -> Judged
     let n = t.count as usize;
     let queues = t.queues;
     let variables = t.variables;
-    let mut seen = judge::inputs_seen(t.inputs);
+    let mut seen = sheet_judge::inputs_seen(t.inputs);
     let mut i = 0;
     while i < n {
         let o = t.operators[i];
         let spot = (i + 1) as u8;
-        let number = operator::memory_number(o);
+        let number = sheet_operator::memory_number(o);
         if number != 0 {
             return Judged { number, spot, seen };
         }
-        let a = judge::admit(queues, variables, seen, o);
+        let a = sheet_judge::admit(queues, variables, seen, o);
         let number = a.number;
         if number != 0 {
             return Judged { number, spot, seen };
@@ -89,7 +89,7 @@ fn vacant_past(n: usize, i: usize, o: Operator) -> bool
     if i < n {
         return true;
     }
-    operator::is_vacant(o)
+    sheet_operator::is_vacant(o)
 }
 
 fn vacant_from(t: Sheet) -> bool
@@ -111,7 +111,7 @@ fn vacant_from(t: Sheet) -> bool
 pub fn check(t: Sheet) -> Answer
     ensures { λ r. ⌜ paper r ≡ checkOf t ⌝ }
 {
-    if !decode::head_good(t.inputs, t.queues, t.variables, t.count) {
+    if !sheet_decode::head_good(t.inputs, t.queues, t.variables, t.count) {
         return Answer::RefusedAt { number: 3, spot: 0 };
     }
     let j = judge_operators(t);
@@ -130,7 +130,7 @@ pub fn check(t: Sheet) -> Answer
         };
     }
     let seen = j.seen;
-    if !judge::all_defined(seen, t.queues) {
+    if !sheet_judge::all_defined(seen, t.queues) {
         return Answer::RefusedAt {
             number: 5,
             spot: past,

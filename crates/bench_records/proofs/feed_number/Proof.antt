@@ -6,7 +6,7 @@ use native.Mathlib.Omega.{arith}
 use lib.ListN.{drop}
 use lib.Seq.{getD-drop}
 use denote.Ref.{now}
-use Rattle.format.specs.Record.{HEADER}
+use Rattle.sheet_format.specs.Record.{HEADER}
 use Rattle.bench_records.proofs.RecordLaws.{feed-room}
 use Rattle.bench_records.proofs.Looking.{number-body, number-queue, number-room}
 use borrow.Author.Needs.{needs}

@@ -6,7 +6,7 @@ use native.Mathlib.Omega.{arith}
 use borrow.Author.Needs.{sfits-of}
 use mir.Facts.{toZ-ofZ}
 use denote.Ref.{now}
-use Rattle.bounds.specs.Bounds.{FIELDS}
+use Rattle.base_bounds.specs.Bounds.{FIELDS}
 use Rattle.bench_records.proofs.RecordLaws.{fieldsTo, fields-more, fields-all}
 use Rattle.bench_records.proofs.item_at.Statement.{statement}
 use Rattle.bench_records.proofs.item_at.Tie as tie

@@ -7,7 +7,7 @@ use borrow.Author.Needs.{needs}
 use lib.ListN.{length, getD, drop}
 use lib.Seq.{getD-drop}
 use denote.Ref.{now}
-use Rattle.format.specs.Record.{HEADER}
+use Rattle.sheet_format.specs.Record.{HEADER}
 use Rattle.bench_records.proofs.RecordLaws.{feed-room}
 use Rattle.bench_records.proofs.Looking.{number-none, Looking, looking-starts, looking-few, looking-ends, looking-stops, looking-goes-on}
 use Rattle.bench_records.proofs.look_feeds.Statement.{statement}

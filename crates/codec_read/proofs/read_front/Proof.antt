@@ -1,6 +1,6 @@
 -- `codec_read::read_front` meets its contract: a head that is refused stops at record 0, and after a good one come its operators.
 -- Assumes nothing.
-use Rattle.decode.proofs.Takes.{head-takes}
+use Rattle.sheet_decode.proofs.Takes.{head-takes}
 use Rattle.codec_read.proofs.Reading.{front-bad}
 use Rattle.codec_read.proofs.ReadEnds.{fronts-stopped}
 use borrow.Author.Needs.{needs}

@@ -5,10 +5,10 @@ use Prim.Native.Nat.{_-_}
 use native.Mathlib.Omega.{arith}
 use borrow.Author.Needs.{needs}
 use lib.ListN.{drop}
-use Rattle.operator.specs.Memory.{Ready}
-use Rattle.format.proofs.Heads.{HeadRanges}
-use Rattle.judge.proofs.KnownLaws.{known-of-kept}
-use Rattle.decode.proofs.Takes.{takes, head-takes}
+use Rattle.sheet_operator.specs.Memory.{Ready}
+use Rattle.sheet_format.proofs.Heads.{HeadRanges}
+use Rattle.sheet_judge.proofs.KnownLaws.{known-of-kept}
+use Rattle.sheet_decode.proofs.Takes.{takes, head-takes}
 use Rattle.codec_read.proofs.Reading.{head-ranges, ReadTo, ready-of-taken, read-starts, read-refused, read-judged, read-goes-on, read-ends, read-whole}
 use Rattle.codec_read.proofs.ReadEnds.{fronts-stopped, fronts-kept}
 use Rattle.codec_read.proofs.read_operators.Statement.{statement}

@@ -5,10 +5,10 @@ use Prim.Native.Nat.{ℕ, _+_, _*_, _-_, _≤_}
 use native.Mathlib.Omega.{arith}
 use borrow.Author.Needs.{needs}
 use lib.ListN.{length}
-use Rattle.operator.proofs.ViewLaws.{ready-of-number}
-use Rattle.format.specs.Record.{RECORD_MOST}
-use Rattle.format.specs.Head.{HEAD_BYTES}
-use Rattle.format.proofs.Heads.{HeadRanges, ranges-of-good}
+use Rattle.sheet_operator.proofs.ViewLaws.{ready-of-number}
+use Rattle.sheet_format.specs.Record.{RECORD_MOST}
+use Rattle.sheet_format.specs.Head.{HEAD_BYTES}
+use Rattle.sheet_format.proofs.Heads.{HeadRanges, ranges-of-good}
 use Rattle.sheet.specs.Sheet.{opAt}
 use Rattle.sheet.proofs.Accepted.{accepted-facts}
 use Rattle.codec_write.proofs.Writing.{bytesTo, length-none, length-more, bytes-all}

@@ -6,12 +6,12 @@ use native.Mathlib.Omega.{arith}
 use borrow.Author.Needs.{needs}
 use lib.ListN.{length}
 use lib.Seq.{sets}
-use Rattle.lists.specs.Lists.{chain}
-use Rattle.operator.specs.Memory.{view, Ready}
-use Rattle.operator.proofs.ViewLaws.{ready-of-number}
-use Rattle.format.specs.Record.{RECORD_MOST, opBytes}
-use Rattle.format.specs.Head.{HEAD_BYTES}
-use Rattle.format.proofs.Heads.{HeadRanges, ranges-of-good}
+use Rattle.base_lists.specs.Lists.{chain}
+use Rattle.sheet_operator.specs.Memory.{view, Ready}
+use Rattle.sheet_operator.proofs.ViewLaws.{ready-of-number}
+use Rattle.sheet_format.specs.Record.{RECORD_MOST, opBytes}
+use Rattle.sheet_format.specs.Head.{HEAD_BYTES}
+use Rattle.sheet_format.proofs.Heads.{HeadRanges, ranges-of-good}
 use Rattle.sheet.specs.Sheet.{opAt, viewTo}
 use Rattle.sheet.proofs.Accepted.{accepted-facts}
 use Rattle.codec_write.proofs.Writing.{bytesTo, length-none, length-more, length-within, length-head-within, writes-more, writes-all}

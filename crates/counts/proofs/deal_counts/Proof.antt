@@ -5,8 +5,8 @@ use Prim.Native.Nat.{ℕ, _+_, _-_, _<_, _≤_}
 use native.Mathlib.Omega.{arith}
 use lib.ListN.{getD, set}
 use borrow.Author.Needs.{needs}
-use Rattle.lists.proofs.Rest.{rest, rest-all, rest-none}
-use Rattle.operator.specs.Memory.{ways}
+use Rattle.base_lists.proofs.Rest.{rest, rest-all, rest-none}
+use Rattle.sheet_operator.specs.Memory.{ways}
 use Rattle.counts.specs.Worst.{dealWorst, dealt}
 use Rattle.counts.proofs.Turns.{dealt-turn}
 use Rattle.counts.proofs.deal_counts.Statement.{statement}

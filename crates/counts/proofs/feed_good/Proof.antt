@@ -8,10 +8,10 @@ use lib.Dec.{ltb, leb, eqb}
 use lib.ListN.{getD}
 use borrow.Author.Needs.{needs}
 use borrow.Author.Tests.{not-true, not-false}
-use Rattle.lists.specs.Lists.{build, all}
-use Rattle.lists.proofs.Tests.{all-more, all-stop}
-use Rattle.judge.proofs.Loops.{all-end}
-use Rattle.bounds.specs.Bounds.{QUEUES, ROOM}
+use Rattle.base_lists.specs.Lists.{build, all}
+use Rattle.base_lists.proofs.Tests.{all-more, all-stop}
+use Rattle.sheet_judge.proofs.Loops.{all-end}
+use Rattle.base_bounds.specs.Bounds.{QUEUES, ROOM}
 use Rattle.counts.specs.Worst.{feedGood}
 use Rattle.counts.proofs.feed_good.Statement.{statement}
 use Rattle.counts.proofs.feed_good.Tie as tie

@@ -5,8 +5,8 @@ use Prim.Native.Nat.{ℕ, _+_, _*_, _-_, _≤_, _^_}
 use native.Mathlib.Omega.{arith}
 use lib.ListN.{getD}
 use borrow.Author.Needs.{needs}
-use Rattle.lists.specs.Lists.{sum}
-use Rattle.operator.specs.Memory.{ways}
+use Rattle.base_lists.specs.Lists.{sum}
+use Rattle.sheet_operator.specs.Memory.{ways}
 use Rattle.counts.proofs.Turns.{sum-turn}
 use Rattle.counts.proofs.gather_count.Statement.{statement}
 use Rattle.counts.proofs.gather_count.Tie as tie

@@ -7,11 +7,11 @@ use native.Mathlib.Omega.{arith}
 use lib.ListN.{replicate}
 use borrow.Author.Needs.{needs}
 use borrow.Author.Tests.{not-true, not-false}
-use Rattle.lists.specs.Lists.{all, member, has}
-use Rattle.lists.proofs.Rest.{rest, rest-all, rest-none}
-use Rattle.lists.proofs.Flags.{has-none}
-use Rattle.operator.specs.Op.{Op, names}
-use Rattle.operator.specs.Memory.{view}
+use Rattle.base_lists.specs.Lists.{all, member, has}
+use Rattle.base_lists.proofs.Rest.{rest, rest-all, rest-none}
+use Rattle.base_lists.proofs.Flags.{has-none}
+use Rattle.sheet_operator.specs.Op.{Op, names}
+use Rattle.sheet_operator.specs.Memory.{view}
 use Rattle.sheet.specs.Sheet.{opAt, viewSheet}
 use Rattle.sheet.specs.declared.Sheet.{Sheet}
 use Rattle.sheet.proofs.Accepted.{ranges-of-accepted}

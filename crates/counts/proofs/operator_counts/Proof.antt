@@ -5,12 +5,12 @@ use Prim.Native.Nat.{ℕ}
 use native.Mathlib.Omega.{arith}
 use lib.ListN.{getD, set}
 use borrow.Author.Needs.{needs}
-use Rattle.lists.specs.Lists.{sum}
-use Rattle.lists.proofs.Build.{build-length, never'}
-use Rattle.operator.specs.Memory.{isEmpty, ways, viewAs, view, Ready}
-use Rattle.operator.specs.declared.Kind.the-variants.{Empty, Line, Latest, Double, Deal, Gather}
-use Rattle.operator.specs.declared.Operator.{Operator}
-use Rattle.operator.proofs.ViewLaws.{by-kind}
+use Rattle.base_lists.specs.Lists.{sum}
+use Rattle.base_lists.proofs.Build.{build-length, never'}
+use Rattle.sheet_operator.specs.Memory.{isEmpty, ways, viewAs, view, Ready}
+use Rattle.sheet_operator.specs.declared.Kind.the-variants.{Empty, Line, Latest, Double, Deal, Gather}
+use Rattle.sheet_operator.specs.declared.Operator.{Operator}
+use Rattle.sheet_operator.proofs.ViewLaws.{by-kind}
 use Rattle.counts.specs.Worst.{dealt, worstOp}
 use Rattle.counts.proofs.operator_counts.Statement.{statement}
 use Rattle.counts.proofs.operator_counts.Tie as tie

@@ -6,10 +6,10 @@ use Prim.Native.Nat.{ℕ, _+_, _-_, _<_, _≤_, _^_}
 use native.Mathlib.Numerals.{add-one}
 use native.Mathlib.Omega.{arith}
 use borrow.Author.Needs.{needs}
-use Rattle.lists.proofs.Rest.{rest, rest-all, rest-none}
-use Rattle.operator.specs.Op.{Op}
-use Rattle.operator.specs.Memory.{view}
-use Rattle.operator.proofs.ViewLaws.{Small}
+use Rattle.base_lists.proofs.Rest.{rest, rest-all, rest-none}
+use Rattle.sheet_operator.specs.Op.{Op}
+use Rattle.sheet_operator.specs.Memory.{view}
+use Rattle.sheet_operator.proofs.ViewLaws.{Small}
 use Rattle.sheet.specs.Sheet.{opAt, viewSheet}
 use Rattle.sheet.specs.declared.Sheet.{Sheet}
 use Rattle.sheet.proofs.Accepted.{ranges-of-accepted}

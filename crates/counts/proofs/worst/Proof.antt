@@ -7,7 +7,7 @@ use native.Mathlib.Omega.{arith}
 use lib.ListN.{replicate}
 use borrow.Author.Needs.{needs}
 use borrow.Author.Tests.{not-true, not-false}
-use Rattle.bounds.specs.Bounds.{QUEUES}
+use Rattle.base_bounds.specs.Bounds.{QUEUES}
 use Rattle.sheet.specs.Answer.{Paper, isAccepted, paper}
 use Rattle.sheet.specs.Check.{checkOf}
 use Rattle.sheet.specs.Sheet.{viewSheet}

@@ -7,7 +7,7 @@ use lib.ListN.{length, getD}
 use denote.Ref.{now}
 use borrow.Author.Needs.{needs}
 use borrow.Author.Tests.{not-true, not-false}
-use Rattle.bounds.specs.Bounds.{QUEUES}
+use Rattle.base_bounds.specs.Bounds.{QUEUES}
 use Rattle.replay_held.specs.Held.{withCount}
 use Rattle.replay_held.proofs.Named.{named}
 use Rattle.replay_held.proofs.set_count.Statement.{statement}

@@ -7,8 +7,8 @@ use lib.ListN.{length}
 use denote.Ref.{now}
 use borrow.Author.Needs.{needs}
 use borrow.Author.Tests.{ne-eqb}
-use Rattle.number.specs.Number.{shortOf}
-use Rattle.effect.proofs.Back.{back}
+use Rattle.base_number.specs.Number.{shortOf}
+use Rattle.run_effect.proofs.Back.{back}
 use Rattle.replay_held.proofs.Named.{place-outside, place-inside}
 use Rattle.replay_held.proofs.set_number.Statement.{statement}
 use Rattle.replay_held.proofs.set_number.Tie as tie

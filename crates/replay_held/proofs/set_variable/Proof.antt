@@ -7,8 +7,8 @@ use lib.ListN.{length, getD}
 use denote.Ref.{now}
 use borrow.Author.Needs.{needs}
 use borrow.Author.Tests.{not-true, not-false}
-use Rattle.bounds.specs.Bounds.{VARIABLES}
-use Rattle.effect.proofs.Back.{back}
+use Rattle.base_bounds.specs.Bounds.{VARIABLES}
+use Rattle.run_effect.proofs.Back.{back}
 use Rattle.replay_held.proofs.Named.{named}
 use Rattle.replay_held.proofs.set_variable.Statement.{statement}
 use Rattle.replay_held.proofs.set_variable.Tie as tie

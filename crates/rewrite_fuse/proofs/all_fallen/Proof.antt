@@ -5,9 +5,9 @@ use Prim.Native.Nat.{ℕ, _+_, _-_, _<_, _≤_}
 use native.Mathlib.Omega.{arith}
 use lib.ListN.{length, getD, set}
 use borrow.Author.Needs.{needs}
-use Rattle.lists.specs.Lists.{build, pad}
-use Rattle.lists.proofs.Pad.{pad-build-more}
-use Rattle.operator.specs.Memory.{PLACES}
+use Rattle.base_lists.specs.Lists.{build, pad}
+use Rattle.base_lists.proofs.Pad.{pad-build-more}
+use Rattle.sheet_operator.specs.Memory.{PLACES}
 use Rattle.rewrite_rules.specs.Rewrite.{fallen}
 use Rattle.rewrite_fuse.proofs.Falling.{all-fallen-end}
 use Rattle.rewrite_fuse.proofs.all_fallen.Statement.{statement}

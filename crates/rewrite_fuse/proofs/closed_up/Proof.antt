@@ -5,11 +5,11 @@ use Prim.Native.Nat.{ℕ, _+_, _-_, _<_, _≤_}
 use native.Mathlib.Omega.{arith}
 use lib.ListN.{getD, set}
 use borrow.Author.Needs.{needs}
-use Rattle.lists.specs.Lists.{build, pad}
-use Rattle.lists.proofs.Pad.{pad-build-more}
-use Rattle.operator.specs.Memory.{noOperator}
-use Rattle.operator.specs.declared.Operator.{Operator}
-use Rattle.bounds.specs.Bounds.{OPERATORS}
+use Rattle.base_lists.specs.Lists.{build, pad}
+use Rattle.base_lists.proofs.Pad.{pad-build-more}
+use Rattle.sheet_operator.specs.Memory.{noOperator}
+use Rattle.sheet_operator.specs.declared.Operator.{Operator}
+use Rattle.base_bounds.specs.Bounds.{OPERATORS}
 use Rattle.sheet.specs.Sheet.{missing}
 use Rattle.rewrite_fuse.specs.Working.{skip, loweredIn}
 use Rattle.rewrite_fuse.proofs.Falling.{skip-within, closed-end}

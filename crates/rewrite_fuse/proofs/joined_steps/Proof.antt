@@ -4,12 +4,12 @@ use mathlib.Core.List.{List, [], _∷_, _++_, append-nil, append-assoc}
 use Prim.Native.Nat.{ℕ, _+_, _-_, _<_, _≤_}
 use native.Mathlib.Omega.{arith}
 use lib.ListN.{length, getD, set, length-append}
-use Rattle.lists.specs.Lists.{pad}
-use Rattle.lists.proofs.Build.{build-length, build-snoc}
-use Rattle.lists.proofs.Pad.{pad-set}
-use Rattle.step.specs.Step.{noStep}
-use Rattle.step.specs.declared.Step.{Step}
-use Rattle.operator.specs.Memory.{PLACES, stepsIn}
+use Rattle.base_lists.specs.Lists.{pad}
+use Rattle.base_lists.proofs.Build.{build-length, build-snoc}
+use Rattle.base_lists.proofs.Pad.{pad-set}
+use Rattle.sheet_step.specs.Step.{noStep}
+use Rattle.sheet_step.specs.declared.Step.{Step}
+use Rattle.sheet_operator.specs.Memory.{PLACES, stepsIn}
 use Rattle.rewrite_fuse.proofs.joined_steps.Statement.{statement}
 use Rattle.rewrite_fuse.proofs.joined_steps.Tie as tie
 

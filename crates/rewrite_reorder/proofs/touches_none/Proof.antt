@@ -5,11 +5,11 @@ use Prim.Native.Nat.{ℕ, _≤_, _-_}
 use native.Mathlib.Omega.{arith}
 use lib.ListN.{getD}
 use borrow.Author.Needs.{needs}
-use Rattle.lists.specs.Lists.{all}
-use Rattle.lists.proofs.Tests.{all-more, all-stop}
-use Rattle.step.specs.Step.{noStep}
-use Rattle.operator.specs.Memory.{stepsIn}
-use Rattle.judge.proofs.Loops.{all-end}
+use Rattle.base_lists.specs.Lists.{all}
+use Rattle.base_lists.proofs.Tests.{all-more, all-stop}
+use Rattle.sheet_step.specs.Step.{noStep}
+use Rattle.sheet_operator.specs.Memory.{stepsIn}
+use Rattle.sheet_judge.proofs.Loops.{all-end}
 use Rattle.rewrite_rules.specs.Rewrite.{touchesNone}
 use Rattle.rewrite_reorder.proofs.touches_none.Statement.{statement}
 use Rattle.rewrite_reorder.proofs.touches_none.Tie as tie

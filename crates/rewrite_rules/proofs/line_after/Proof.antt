@@ -5,7 +5,7 @@ use mathlib.Core.Bool.{true}
 use Prim.Native.Nat.{_<_}
 use borrow.Author.Needs.{needs}
 use borrow.Author.Tests.{not-true, not-false}
-use Rattle.operator.specs.Memory.{view}
+use Rattle.sheet_operator.specs.Memory.{view}
 use Rattle.sheet.specs.Sheet.{opAt}
 use Rattle.rewrite_rules.specs.Rewrite.{isLine}
 use Rattle.rewrite_rules.proofs.Pairs.{place-below, follows-past, follows-no-line, follows-unread, follows-other, follows-found}

@@ -1,5 +1,5 @@
 -- `rewrite_split::copied_line` meets its contract: the steps of a line in memory are its list's, filled up.
-use Rattle.operator.proofs.Held.{held-of}
+use Rattle.sheet_operator.proofs.Held.{held-of}
 use Rattle.rewrite_split.proofs.Parting.{line-copied}
 use Rattle.rewrite_split.proofs.copied_line.Statement.{statement}
 use Rattle.rewrite_split.proofs.copied_line.Tie as tie

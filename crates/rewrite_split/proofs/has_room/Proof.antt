@@ -5,7 +5,7 @@ use Prim.Native.Nat.{ℕ, _+_, _*_, _≤_}
 use lib.Dec.{leb}
 use borrow.Author.Needs.{needs}
 use borrow.Author.Tests.{le-leb, lt-leb}
-use Rattle.bounds.specs.Bounds.{OPERATORS, VARIABLES, QUEUES}
+use Rattle.base_bounds.specs.Bounds.{OPERATORS, VARIABLES, QUEUES}
 use Rattle.rewrite_split.proofs.has_room.Statement.{statement}
 use Rattle.rewrite_split.proofs.has_room.Tie as tie
 

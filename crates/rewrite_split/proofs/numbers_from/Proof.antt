@@ -4,9 +4,9 @@ use mathlib.Core.List.{List}
 use Prim.Native.Nat.{ℕ, _+_, _-_, _≤_, _<_}
 use native.Mathlib.Omega.{arith}
 use lib.ListN.{set}
-use Rattle.lists.specs.Lists.{build, pad}
-use Rattle.lists.proofs.Pad.{pad-build-more}
-use Rattle.operator.specs.Memory.{PLACES}
+use Rattle.base_lists.specs.Lists.{build, pad}
+use Rattle.base_lists.proofs.Pad.{pad-build-more}
+use Rattle.sheet_operator.specs.Memory.{PLACES}
 use Rattle.rewrite_split.proofs.numbers_from.Statement.{statement}
 use Rattle.rewrite_split.proofs.numbers_from.Tie as tie
 

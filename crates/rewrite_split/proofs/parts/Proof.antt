@@ -2,7 +2,7 @@
 use mathlib.Core.Path.{_≡_, _∙_}
 use Prim.Native.Nat.{_-_, _≤_}
 use native.Mathlib.Omega.{arith}
-use Rattle.bounds.specs.Bounds.{OPERATORS}
+use Rattle.base_bounds.specs.Bounds.{OPERATORS}
 use Rattle.sheet.specs.Sheet.{HeldSheet}
 use Rattle.sheet.proofs.InMemory.{held-sheet}
 use Rattle.rewrite_split.specs.Working.{Splits}

@@ -4,9 +4,9 @@ use mathlib.Core.Path.{_≡_}
 use mathlib.Core.Bool.{true, false, not, _&&_}
 use lib.Dec.{eqb}
 use borrow.Author.Needs.{needs}
-use Rattle.step.specs.Step.{rowOf}
-use Rattle.step.specs.declared.Row.{Row}
-use Rattle.step.specs.declared.Step.{Step}
+use Rattle.sheet_step.specs.Step.{rowOf}
+use Rattle.sheet_step.specs.declared.Row.{Row}
+use Rattle.sheet_step.specs.declared.Step.{Step}
 use Rattle.rewrite_rules.specs.Rewrite.{touchesNone, writesSome}
 use Rattle.rewrite_split.proofs.step_free.Statement.{statement}
 use Rattle.rewrite_split.proofs.step_free.Tie as tie

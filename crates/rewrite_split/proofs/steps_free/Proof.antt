@@ -6,12 +6,12 @@ use native.Mathlib.Omega.{arith}
 use lib.ListN.{getD}
 use borrow.Author.Needs.{needs}
 use borrow.Author.Tests.{not-true, not-false}
-use Rattle.lists.specs.Lists.{all}
-use Rattle.lists.proofs.Tests.{all-more, all-stop}
-use Rattle.step.specs.Step.{noStep}
-use Rattle.step.specs.declared.Step.{Step}
-use Rattle.operator.specs.Memory.{stepsIn}
-use Rattle.judge.proofs.Loops.{all-end}
+use Rattle.base_lists.specs.Lists.{all}
+use Rattle.base_lists.proofs.Tests.{all-more, all-stop}
+use Rattle.sheet_step.specs.Step.{noStep}
+use Rattle.sheet_step.specs.declared.Step.{Step}
+use Rattle.sheet_operator.specs.Memory.{stepsIn}
+use Rattle.sheet_judge.proofs.Loops.{all-end}
 use Rattle.rewrite_rules.specs.Rewrite.{touchesNone, writesSome}
 use Rattle.rewrite_split.proofs.steps_free.Statement.{statement}
 use Rattle.rewrite_split.proofs.steps_free.Tie as tie

@@ -3,10 +3,10 @@
 use native.Mathlib.Omega.{arith}
 use borrow.Author.Tests.{not-true, not-false}
 use denote.Ref.{now}
-use Rattle.operator.specs.Op.{Op}
-use Rattle.operator.specs.Memory.{view}
-use Rattle.machine.specs.Machine.{Machine}
-use Rattle.machine.specs.Numbers.{decode}
+use Rattle.sheet_operator.specs.Op.{Op}
+use Rattle.sheet_operator.specs.Memory.{view}
+use Rattle.run_machine.specs.Machine.{Machine}
+use Rattle.run_machine.specs.Numbers.{decode}
 use Rattle.run_ready.proofs.Readies.{bit-unfound, bit-accepted, bit-refused}
 use Rattle.run_ready.proofs.ready_bit.Statement.{statement}
 use Rattle.run_ready.proofs.ready_bit.Tie as tie

@@ -6,12 +6,12 @@ use Prim.Native.Nat.{ℕ, _-_, _*_, _^_, _≤_, _<_}
 use native.Mathlib.Omega.{arith}
 use borrow.Author.Needs.{needs}
 use denote.Ref.{now}
-use Rattle.lists.specs.Lists.{bit}
+use Rattle.base_lists.specs.Lists.{bit}
 use Rattle.sheet.specs.Sheet.{viewSheet}
-use Rattle.bounds.specs.Bounds.{QUEUES}
-use Rattle.machine.specs.Numbers.{decode}
-use Rattle.machine.specs.Ready.{SET, readyAt, bitsFrom}
-use Rattle.machine.proofs.Found.{can-fire-as-found}
+use Rattle.base_bounds.specs.Bounds.{QUEUES}
+use Rattle.run_machine.specs.Numbers.{decode}
+use Rattle.run_machine.specs.Ready.{SET, readyAt, bitsFrom}
+use Rattle.run_machine.proofs.Found.{can-fire-as-found}
 use Rattle.run_ready.proofs.Readies.{ready-past, found-bit, ready-turn, ready-fits, ready-all}
 use Rattle.run_ready.proofs.ready_known.Statement.{statement}
 use Rattle.run_ready.proofs.ready_known.Tie as tie

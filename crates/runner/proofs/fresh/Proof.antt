@@ -10,11 +10,11 @@ use borrow.Author.Needs.{needs}
 use borrow.Author.Tests.{eq-eqb, ne-eqb}
 use Rattle.sheet.specs.declared.Answer.the-variants.{Done, Refused}
 use Rattle.sheet.specs.Answer.{paper}
-use Rattle.store.specs.Store.{STORE}
-use Rattle.machine.specs.declared.Called.{Called}
-use Rattle.machine.specs.declared.State.{State}
-use Rattle.machine.specs.Calls.{freshState, freshOf}
-use Rattle.machine.specs.Answers.{Answers}
+use Rattle.run_store.specs.Store.{STORE}
+use Rattle.run_machine.specs.declared.Called.{Called}
+use Rattle.run_machine.specs.declared.State.{State}
+use Rattle.run_machine.specs.Calls.{freshState, freshOf}
+use Rattle.run_machine.specs.Answers.{Answers}
 use Rattle.runner.proofs.fresh.Statement.{statement}
 use Rattle.runner.proofs.fresh.Tie as tie
 

@@ -6,11 +6,11 @@ use Prim.Native.Nat.{ℕ, _+_}
 use native.Mathlib.Omega.{arith}
 use borrow.Author.Needs.{needs}
 use borrow.Author.Tests.{not-true, not-false}
-use Rattle.lists.proofs.Build.{build-length}
-use Rattle.operator.specs.Memory.{view}
-use Rattle.judge.specs.Judge.{Known, known, whole}
-use Rattle.format.specs.Head.{headGood}
-use Rattle.format.proofs.Heads.{ranges-of-good}
+use Rattle.base_lists.proofs.Build.{build-length}
+use Rattle.sheet_operator.specs.Memory.{view}
+use Rattle.sheet_judge.specs.Judge.{Known, known, whole}
+use Rattle.sheet_format.specs.Head.{headGood}
+use Rattle.sheet_format.proofs.Heads.{ranges-of-good}
 use Rattle.sheet.specs.declared.Sheet.{Sheet}
 use Rattle.sheet.specs.Answer.{accepted, refusedAt}
 use Rattle.sheet.specs.Sheet.{opAt, viewTo, viewSheet}

@@ -5,13 +5,13 @@ use Prim.Native.Nat.{ℕ, _+_, _-_, _≤_, _<_}
 use native.Mathlib.Omega.{arith}
 use borrow.Author.Needs.{needs}
 use borrow.Author.Tests.{eq-eqb, ne-eqb}
-use Rattle.operator.specs.Memory.{memoryNumber, view}
-use Rattle.operator.proofs.ViewLaws.{ready-of-number}
-use Rattle.judge.specs.Judge.{Known, known, judgeBy, after}
-use Rattle.judge.specs.Seen.{knownBy}
-use Rattle.judge.specs.declared.Seen.{Seen}
-use Rattle.judge.proofs.KnownLaws.{known-with, known-of-kept}
-use Rattle.format.proofs.Heads.{HeadRanges, ranges-of-good}
+use Rattle.sheet_operator.specs.Memory.{memoryNumber, view}
+use Rattle.sheet_operator.proofs.ViewLaws.{ready-of-number}
+use Rattle.sheet_judge.specs.Judge.{Known, known, judgeBy, after}
+use Rattle.sheet_judge.specs.Seen.{knownBy}
+use Rattle.sheet_judge.specs.declared.Seen.{Seen}
+use Rattle.sheet_judge.proofs.KnownLaws.{known-with, known-of-kept}
+use Rattle.sheet_format.proofs.Heads.{HeadRanges, ranges-of-good}
 use Rattle.sheet.specs.declared.Sheet.{Sheet}
 use Rattle.sheet.specs.Sheet.{opAt, viewTo}
 use Rattle.sheet.specs.Check.{numberIn, checkFrom}

@@ -6,10 +6,10 @@ use native.Mathlib.Omega.{arith}
 use lib.Dec.{ltb}
 use borrow.Author.Needs.{needs}
 use borrow.Author.Tests.{not-true, not-false}
-use Rattle.lists.specs.Lists.{build, all}
-use Rattle.lists.proofs.Tests.{all-more, all-stop}
-use Rattle.operator.specs.Memory.{vacant}
-use Rattle.bounds.specs.Bounds.{OPERATORS}
+use Rattle.base_lists.specs.Lists.{build, all}
+use Rattle.base_lists.proofs.Tests.{all-more, all-stop}
+use Rattle.sheet_operator.specs.Memory.{vacant}
+use Rattle.base_bounds.specs.Bounds.{OPERATORS}
 use Rattle.sheet.specs.declared.Sheet.{Sheet}
 use Rattle.sheet.specs.Sheet.{opAt}
 use Rattle.sheet.proofs.vacant_from.Statement.{statement}
