@@ -1,8 +1,11 @@
 /*
- * peer: an independent reading of 01-scope.md (bench) and REPLAY.md (replay).
+ * peer: an independent reading of 01-scope.md (bench), REPLAY.md (replay) and
+ * the page on texts (19 and 20 of replay, to_text, to_bytes).
  *
- * `peer bench`  reads one bench input and prints bench's report.
- * `peer replay` reads a stream of calls and prints their answers.
+ * `peer bench`    reads one bench input and prints bench's report.
+ * `peer replay`   reads a stream of calls and prints their answers.
+ * `peer to_text`  reads a sheet's bytes and prints its text.
+ * `peer to_bytes` reads a text and prints the sheet's bytes.
  *
  * A sheet is calm where no variable is named by two operators.
  */
@@ -40,7 +43,13 @@ enum {
     MAX_SHEET = RECORD_HEAD + HEAD_BODY
         + OPS * (RECORD_HEAD + LINE_FIXED + MAX_STEPS * STEP_BYTES),
 
-    BENCH_MAX = 32768,
+    /* a line of four Keeps is the longest operator */
+    STEP_TEXT = sizeof "Keep[3,-2147483648,-2147483648] | ",
+    MAX_TEXT = sizeof "output; input; vars 16;"
+        + (QUEUES + INPUTS) * sizeof ", q23"
+        + OPS * (sizeof " (q23) <- (q23);" + MAX_STEPS * STEP_TEXT),
+
+    INPUT_MAX = 32768,              /* of a program */
     BODY_MAX = 40000,
     LENT_MAX = 4096,
     LENT_FILL = 170,
@@ -56,7 +65,7 @@ enum refusal {
     OK = 0,
     R_SHAPE = 1, R_KIND, R_HEAD, R_QUEUE, R_TWICE, R_VAR, R_STEP,
     R_STATE, R_NO_END, R_EMPTY, R_WAITS, R_ROOM,
-    R_NOT_CALM, R_NO_OP, R_NO_LINE, R_LIMIT, R_FORBIDDEN, R_LENT
+    R_NOT_CALM, R_NO_OP, R_NO_LINE, R_LIMIT, R_FORBIDDEN, R_LENT, R_TEXT
 };
 
 /* ---- the one table of steps ---- */
@@ -66,6 +75,7 @@ enum function { F_KEEP = 1, F_ADD, F_COPY, F_COUNT, F_STAMP, F_END };
 enum place { P_VAR = 1, P_P = 2, P_R = 4, P_LOW = 8, P_HIGH = 16 };
 
 typedef struct {
+    const char *name;
     unsigned takes;                 /* places used, enum place */
     unsigned reads;                 /* P_P where field p is read */
     unsigned writes;                /* P_P or P_R: the field written */
@@ -73,11 +83,11 @@ typedef struct {
 } StepRule;
 
 static const StepRule STEP_RULES[F_END] = {
-    [F_KEEP]  = { P_P | P_LOW | P_HIGH, P_P, 0,   true  },
-    [F_ADD]   = { P_P | P_LOW,          P_P, P_P, false },
-    [F_COPY]  = { P_P | P_R,            P_P, P_R, false },
-    [F_COUNT] = { P_VAR | P_P,          0,   P_P, false },
-    [F_STAMP] = { P_VAR | P_P,          0,   P_P, false }
+    [F_KEEP]  = { "Keep",  P_P | P_LOW | P_HIGH, P_P, 0,   true  },
+    [F_ADD]   = { "Add",   P_P | P_LOW,          P_P, P_P, false },
+    [F_COPY]  = { "Copy",  P_P | P_R,            P_P, P_R, false },
+    [F_COUNT] = { "Count", P_VAR | P_P,          0,   P_P, false },
+    [F_STAMP] = { "Stamp", P_VAR | P_P,          0,   P_P, false }
 };
 
 /* ---- sheet and state ---- */
@@ -111,12 +121,12 @@ typedef struct {
 
 typedef struct {
     int number;                     /* OK or a refusal */
-    unsigned record;
+    unsigned at;                    /* record, or with R_TEXT the byte */
 } Verdict;
 
-static Verdict verdict(int number, unsigned record)
+static Verdict verdict(int number, unsigned at)
 {
-    Verdict v = { number, record };
+    Verdict v = { number, at };
     return v;
 }
 
@@ -297,6 +307,11 @@ static bool has_cursor(const Op *op)
     return op->kind == K_DEAL || op->kind == K_GATHER;
 }
 
+static bool has_var(const Op *op)
+{
+    return op->kind == K_LATEST || has_cursor(op);
+}
+
 static unsigned ways(const Op *op)
 {
     return op->kind == K_DEAL ? op->outs : op->ins;
@@ -313,7 +328,7 @@ static VarUse var_use(const Op *op)
             continue;
         use.named |= UINT32_C(1) << op->step[i].var;
     }
-    if (op->kind == K_LATEST || has_cursor(op))
+    if (has_var(op))
         use.named |= UINT32_C(1) << op->var;
     if (has_cursor(op))
         use.cursor = use.named;
@@ -371,7 +386,7 @@ static bool vars_good(const Sheet *sh, const Op *op, const Seen *seen)
     for (unsigned i = 0; i < op->steps; i++)
         if (!step_var_good(sh, &op->step[i], seen))
             return false;
-    if (op->kind != K_LATEST && !has_cursor(op))
+    if (!has_var(op))
         return true;
     if (op->var >= sh->vars)
         return false;
@@ -426,6 +441,13 @@ static uint32_t low_bits(unsigned n)
     return (UINT32_C(1) << n) - 1;
 }
 
+static bool head_fits(size_t inputs, unsigned queues, unsigned vars,
+                      size_t ops)
+{
+    return inputs >= 1 && inputs <= INPUTS && queues >= inputs
+        && queues <= QUEUES && vars <= VARS && ops <= OPS;
+}
+
 static int read_head(Reader *rd, Sheet *sh)
 {
     Record rec;
@@ -440,10 +462,7 @@ static int read_head(Reader *rd, Sheet *sh)
     sh->queues = rec.body[1];
     sh->vars = rec.body[2];
     sh->ops = rec.body[3];
-    if (sh->inputs < 1 || sh->inputs > INPUTS || sh->queues < sh->inputs
-        || sh->queues > QUEUES || sh->vars > VARS || sh->ops > OPS)
-        return R_HEAD;
-    return OK;
+    return head_fits(sh->inputs, sh->queues, sh->vars, sh->ops) ? OK : R_HEAD;
 }
 
 static int read_op(Reader *rd, const Sheet *sh, Op *op, Seen *seen)
@@ -551,15 +570,479 @@ static size_t encode_sheet(const Sheet *sh, uint8_t *buffer)
     return (size_t)(b - buffer);
 }
 
-static Verdict write_sheet(const Sheet *sh, uint8_t *lent, size_t length)
-{
-    uint8_t whole[MAX_SHEET];
-    size_t n = encode_sheet(sh, whole);
+/* ---- printing text ---- */
 
-    if (n > length)
-        return verdict(R_LENT, 0);
-    memcpy(lent, whole, n);
-    return verdict(OK, 0);
+static uint8_t *put_string(uint8_t *b, const char *s)
+{
+    return encode_bytes(b, (const uint8_t *)s, (unsigned)strlen(s));
+}
+
+static uint8_t *put_decimal(uint8_t *b, int32_t n)
+{
+    uint32_t left = n < 0 ? 0 - (uint32_t)n : (uint32_t)n;
+    uint8_t digit[10];
+    unsigned digits = 0;
+
+    do
+        digit[digits++] = (uint8_t)('0' + left % 10);
+    while ((left /= 10) != 0);
+    if (n < 0)
+        b = put8(b, '-');
+    while (digits > 0)
+        b = put8(b, digit[--digits]);
+    return b;
+}
+
+static uint8_t *put_argument(uint8_t *b, const char *before, int32_t n)
+{
+    return put_decimal(put_string(b, before), n);
+}
+
+static uint8_t *put_step(uint8_t *b, const Step *s)
+{
+    const StepRule *rule = step_rule(s);
+
+    b = put_string(b, rule->name);
+    if (rule->takes & P_VAR)
+        b = put_argument(put_argument(b, "[$v", s->var), ",", s->p);
+    else
+        b = put_argument(b, "[", s->p);
+    if (rule->takes & P_R)
+        b = put_argument(b, ",", s->r);
+    if (rule->takes & P_LOW)
+        b = put_argument(b, ",", s->low);
+    if (rule->takes & P_HIGH)
+        b = put_argument(b, ",", s->high);
+    return put8(b, ']');
+}
+
+static uint8_t *put_function(uint8_t *b, const Op *op)
+{
+    switch (op->kind) {
+    case K_LINE:
+        b = put_step(b, &op->step[0]);
+        for (unsigned i = 1; i < op->steps; i++)
+            b = put_step(put_string(b, " | "), &op->step[i]);
+        return b;
+    case K_LATEST:
+        return put8(put_argument(b, "Latest[", op->field), ']');
+    case K_DOUBLE:
+        return put_string(b, "Double");
+    case K_DEAL:
+        return put_string(b, "Deal");
+    default:
+        return put_string(b, "Gather");
+    }
+}
+
+/* One side of an operator; var is NO_VAR where no variable stands on it. */
+static uint8_t *put_side(uint8_t *b, const uint8_t *queue, unsigned n,
+                         unsigned var)
+{
+    b = put8(b, '(');
+    for (unsigned i = 0; i < n; i++)
+        b = put_argument(b, i == 0 ? "q" : ", q", queue[i]);
+    if (var != NO_VAR)
+        b = put_argument(b, n == 0 ? "$v" : ", $v", (int32_t)var);
+    return put8(b, ')');
+}
+
+static uint8_t *put_op(uint8_t *b, const Op *op)
+{
+    b = put_side(put8(b, ' '), op->out, op->outs,
+                 has_var(op) ? op->var : NO_VAR);
+    b = put_function(put_string(b, " <- "), op);
+    b = put_side(b, op->in, op->ins, has_cursor(op) ? op->var : NO_VAR);
+    return put8(b, ';');
+}
+
+static uint8_t *put_list(uint8_t *b, const char *word, uint32_t set)
+{
+    const char *before = " q";
+
+    b = put_string(b, word);
+    for (unsigned q = 0; q < QUEUES; q++)
+        if (bit(set, q)) {
+            b = put_argument(b, before, (int32_t)q);
+            before = ", q";
+        }
+    return put8(b, ';');
+}
+
+static uint32_t output_set(const Sheet *sh)
+{
+    uint32_t used = 0;
+
+    for (unsigned i = 0; i < sh->ops; i++)
+        add_queues(&used, sh->op[i].in, sh->op[i].ins);
+    return low_bits(sh->queues) & ~used;
+}
+
+/* Needs MAX_TEXT bytes; answers how many it used. */
+static size_t print_sheet(const Sheet *sh, uint8_t *buffer)
+{
+    uint8_t *b = put_list(buffer, "output", output_set(sh));
+
+    b = put_list(b, " input", low_bits(sh->inputs));
+    b = put8(put_argument(b, " vars ", sh->vars), ';');
+    for (unsigned i = 0; i < sh->ops; i++)
+        b = put_op(b, &sh->op[i]);
+    return (size_t)(b - buffer);
+}
+
+/* ---- reading text ---- */
+
+/*
+ * Each text_ function takes one piece of the grammar, with the blanks before
+ * it. Where it answers false, `at` is the first byte after which no text can
+ * follow. Behind the text stands a 0, which no token holds, so a text cut
+ * short is refused at its length without a test for the end at each byte.
+ */
+typedef struct {
+    const uint8_t *at, *end;
+} Text;
+
+static bool is_blank(unsigned c)
+{
+    return c == ' ' || c == '\t' || c == '\n' || c == '\r';
+}
+
+static void skip_blanks(Text *t)
+{
+    while (is_blank(*t->at))
+        t->at++;
+}
+
+/* One byte that is this one, no blank before it. */
+static bool exactly(Text *t, unsigned c)
+{
+    if (*t->at != c)
+        return false;
+    t->at++;
+    return true;
+}
+
+static bool text_word(Text *t, const char *s)
+{
+    skip_blanks(t);
+    while (*s != 0)
+        if (!exactly(t, (uint8_t)*s++))
+            return false;
+    return true;
+}
+
+static bool text_mark(Text *t, unsigned c)
+{
+    skip_blanks(t);
+    return exactly(t, c);
+}
+
+static bool comes(Text *t, unsigned c)
+{
+    skip_blanks(t);
+    return *t->at == c;
+}
+
+/*
+ * The longest decimal up to max. A digit that is left over is refused at once,
+ * since only a mark or a blank can follow a decimal.
+ */
+static bool text_decimal(Text *t, uint64_t max, uint64_t *value)
+{
+    unsigned d = *t->at - (unsigned)'0';
+
+    if (d > 9)
+        return false;
+    *value = d;
+    t->at++;
+    while (*value != 0 && (d = *t->at - (unsigned)'0') <= 9
+           && *value * 10 + d <= max) {
+        *value = *value * 10 + d;
+        t->at++;
+    }
+    return true;
+}
+
+static bool text_small(Text *t, unsigned max, uint8_t *value)
+{
+    uint64_t v;
+
+    if (!text_decimal(t, max, &v))
+        return false;
+    *value = (uint8_t)v;
+    return true;
+}
+
+static bool text_queue(Text *t, uint8_t *q)
+{
+    return text_mark(t, 'q') && text_small(t, QUEUES - 1, q);
+}
+
+static bool text_var(Text *t, uint8_t *var)
+{
+    return text_word(t, "$v") && text_small(t, VARS - 1, var);
+}
+
+/* The variable's second place in an operator: spelled as in the first. */
+static bool text_same_var(Text *t, unsigned var)
+{
+    return text_word(t, "$v") && (var < 10 || exactly(t, '0' + var / 10))
+        && exactly(t, '0' + var % 10);
+}
+
+static bool text_byte(Text *t, uint8_t *value)
+{
+    skip_blanks(t);
+    return text_small(t, UINT8_MAX, value);
+}
+
+static bool text_number(Text *t, int32_t *value)
+{
+    bool minus = text_mark(t, '-');
+    uint64_t v;
+
+    if (minus && *t->at == '0')
+        return false;
+    if (!text_decimal(t, (uint64_t)INT32_MAX + minus, &v))
+        return false;
+    *value = to_signed(minus ? 0 - (uint32_t)v : (uint32_t)v);
+    return true;
+}
+
+/* The function that can stand here; its name is still to be compared. */
+static unsigned function_at(const uint8_t *b)
+{
+    switch (b[0]) {
+    case 'K':
+        return F_KEEP;
+    case 'A':
+        return F_ADD;
+    case 'S':
+        return F_STAMP;
+    default:
+        return b[0] == 'C' && b[1] == 'o' && b[2] == 'u' ? F_COUNT : F_COPY;
+    }
+}
+
+static bool text_step(Text *t, Step *s)
+{
+    const StepRule *rule;
+
+    skip_blanks(t);
+    s->fn = (uint8_t)function_at(t->at);
+    s->var = NO_VAR;
+    rule = &STEP_RULES[s->fn];
+    return text_word(t, rule->name) && text_mark(t, '[')
+        && (!(rule->takes & P_VAR)
+            || (text_var(t, &s->var) && text_mark(t, ',')))
+        && text_byte(t, &s->p)
+        && (!(rule->takes & P_R)
+            || (text_mark(t, ',') && text_byte(t, &s->r)))
+        && (!(rule->takes & P_LOW)
+            || (text_mark(t, ',') && text_number(t, &s->low)))
+        && (!(rule->takes & P_HIGH)
+            || (text_mark(t, ',') && text_number(t, &s->high)))
+        && text_mark(t, ']');
+}
+
+static bool text_steps(Text *t, Op *op)
+{
+    do
+        if (!text_step(t, &op->step[op->steps++]))
+            return false;
+    while (op->steps < MAX_STEPS && text_mark(t, '|'));
+    return true;
+}
+
+/* The left side; what stands on it decides the operator's kind. */
+static bool text_left(Text *t, Op *op)
+{
+    static const uint8_t with_var[] = {
+        K_LATEST, K_GATHER, K_DEAL, K_DEAL, K_DEAL
+    };
+
+    if (!text_mark(t, '('))
+        return false;
+    while (!comes(t, '$')) {
+        if (op->outs == MAX_WAYS || !text_queue(t, &op->out[op->outs++]))
+            return false;
+        if (op->outs <= 2 && text_mark(t, ')')) {
+            op->kind = op->outs == 1 ? K_LINE : K_DOUBLE;
+            return true;
+        }
+        if (!text_mark(t, ','))
+            return false;
+    }
+    op->kind = with_var[op->outs];
+    return text_var(t, &op->var) && text_mark(t, ')');
+}
+
+/* What stands between the arrow and the right side. */
+static bool text_function(Text *t, Op *op)
+{
+    switch (op->kind) {
+    case K_LINE:
+        return text_steps(t, op);
+    case K_LATEST:
+        return text_word(t, "Latest") && text_mark(t, '[')
+            && text_byte(t, &op->field) && text_mark(t, ']');
+    case K_DOUBLE:
+        return text_word(t, "Double");
+    case K_DEAL:
+        return text_word(t, "Deal");
+    default:
+        return text_word(t, "Gather");
+    }
+}
+
+static bool text_right(Text *t, Op *op)
+{
+    bool gather = op->kind == K_GATHER;
+    unsigned least = gather ? MIN_WAYS : 1, most = gather ? MAX_WAYS : 1;
+
+    if (!text_mark(t, '(') || !text_queue(t, &op->in[op->ins++]))
+        return false;
+    while (has_cursor(op)) {
+        if (!text_mark(t, ','))
+            return false;
+        if (op->ins == most || (op->ins >= least && comes(t, '$')))
+            return text_same_var(t, op->var) && text_mark(t, ')');
+        if (!text_queue(t, &op->in[op->ins++]))
+            return false;
+    }
+    return text_mark(t, ')');
+}
+
+/* All operators are read; those past the last place are not kept. */
+static bool text_ops(Text *t, Sheet *sh, size_t *ops)
+{
+    Op spare, *op;
+
+    for (*ops = 0; skip_blanks(t), t->at != t->end; ++*ops) {
+        op = *ops < OPS ? &sh->op[*ops] : &spare;
+        memset(op, 0, sizeof *op);
+        if (!text_left(t, op) || !text_word(t, "<-") || !text_function(t, op)
+            || !text_right(t, op) || !text_mark(t, ';'))
+            return false;
+    }
+    return true;
+}
+
+/* A list of any length, as far as it has to be known. */
+typedef struct {
+    const uint8_t *start;           /* first name, or `;` of an empty list */
+    size_t names;
+    uint32_t set;
+    bool falls;                     /* some name is not above all before it */
+} NameList;
+
+static bool text_name(Text *t, NameList *list)
+{
+    uint8_t q;
+
+    if (!text_queue(t, &q))
+        return false;
+    list->falls |= list->set >> q != 0;
+    list->set |= UINT32_C(1) << q;
+    list->names++;
+    return true;
+}
+
+static bool text_list(Text *t, const char *word, NameList *list)
+{
+    bool apart;
+
+    if (!text_word(t, word))
+        return false;
+    apart = is_blank(*t->at);
+    skip_blanks(t);
+    list->start = t->at;
+    if (exactly(t, ';'))
+        return true;
+    if (!apart)
+        return false;
+    do
+        if (!text_name(t, list))
+            return false;
+    while (text_mark(t, ','));
+    return text_mark(t, ';');
+}
+
+/* What a text says, beside the operators that are kept. */
+typedef struct {
+    NameList outputs, inputs;
+    uint8_t vars;
+    size_t ops;
+} Said;
+
+static bool text_all(Text *t, Sheet *sh, Said *said)
+{
+    return text_list(t, "output", &said->outputs)
+        && text_list(t, "input", &said->inputs)
+        && text_word(t, "vars") && is_blank(*t->at)
+        && text_byte(t, &said->vars) && text_mark(t, ';')
+        && text_ops(t, sh, &said->ops);
+}
+
+/* Q; with too many operators the head is refused whatever Q is. */
+static unsigned queues_said(const Sheet *sh, const Said *said)
+{
+    uint32_t set = said->inputs.set;
+    unsigned n = 0;
+
+    for (unsigned i = 0; i < OPS && i < said->ops; i++) {
+        add_queues(&set, sh->op[i].in, sh->op[i].ins);
+        add_queues(&set, sh->op[i].out, sh->op[i].outs);
+    }
+    while (set >> n != 0)
+        n++;
+    return n;
+}
+
+static Verdict judge_said(Sheet *sh, const Said *said)
+{
+    unsigned queues = queues_said(sh, said);
+    Seen seen = { 0, 0, 0, 0 };
+
+    if (!head_fits(said->inputs.names, queues, said->vars, said->ops))
+        return verdict(R_HEAD, 0);
+    sh->inputs = (uint8_t)said->inputs.names;
+    sh->queues = (uint8_t)queues;
+    sh->vars = said->vars;
+    sh->ops = (uint8_t)said->ops;
+    seen.defined = low_bits(sh->inputs);
+    for (unsigned i = 0; i < sh->ops; i++) {
+        int r = judge_op(sh, &sh->op[i], &seen);
+        if (r != OK)
+            return verdict(r, i + 1);
+    }
+    return check_all_defined(sh, seen.defined);
+}
+
+static bool list_is(const NameList *list, uint32_t set)
+{
+    return !list->falls && list->set == set;
+}
+
+/* The byte behind the text is 0. */
+static Verdict read_text(const uint8_t *text, size_t length, Sheet *sh)
+{
+    Text t = { text, text + length };
+    Said said;
+    Verdict v;
+
+    memset(sh, 0, sizeof *sh);
+    memset(&said, 0, sizeof said);
+    if (!text_all(&t, sh, &said))
+        return verdict(R_TEXT, (unsigned)(t.at - text));
+    v = judge_said(sh, &said);
+    if (v.number != OK)
+        return v;
+    if (!list_is(&said.outputs, output_set(sh)))
+        return verdict(R_TEXT, (unsigned)(said.outputs.start - text));
+    if (!list_is(&said.inputs, low_bits(sh->inputs)))
+        return verdict(R_TEXT, (unsigned)(said.inputs.start - text));
+    return v;
 }
 
 /* ---- queues ---- */
@@ -1110,9 +1593,16 @@ static void print_refusal(int number)
     printf("refused %d\n", number);
 }
 
-static void print_record_refusal(Verdict v)
+static void print_refusal_at(FILE *where, Verdict v)
 {
-    printf("refused %d at record %u\n", v.number, v.record);
+    fprintf(where, "refused %d at %s %u", v.number,
+            v.number == R_TEXT ? "byte" : "record", v.at);
+}
+
+static void answer_refusal_at(Verdict v)
+{
+    print_refusal_at(stdout, v);
+    putchar('\n');
 }
 
 static Item decode_item(const uint8_t *b)
@@ -1164,7 +1654,7 @@ static Verdict bench_run(const uint8_t *data, size_t length, Sheet *sh,
     uint32_t defined = 0;
     Verdict v;
 
-    if (length > BENCH_MAX)
+    if (length > INPUT_MAX)
         return verdict(R_LENT, 0);
     v = read_records(&rd, sh, &defined);
     if (v.number == OK)
@@ -1200,7 +1690,7 @@ static void bench(const uint8_t *data, size_t length)
     if (v.number == OK)
         print_report(&sh, &st, t);
     else
-        print_record_refusal(v);
+        answer_refusal_at(v);
 }
 
 /* ---- replay ---- */
@@ -1232,43 +1722,78 @@ static bool call_bench(Held *h, Call c)
     return true;
 }
 
-static bool call_read(Held *h, Call c)
+/* Bytes and texts are read alike, and written alike. */
+typedef Verdict ReadSheet(const uint8_t *data, size_t length, Sheet *sh);
+typedef size_t WriteSheet(const Sheet *sh, uint8_t *buffer);
+
+static bool read_into(Held *h, Call c, ReadSheet *read)
 {
     Sheet sh;
-    Verdict v = read_sheet(c.body, c.length, &sh);
+    Verdict v = read(c.body, c.length, &sh);
 
     if (v.number == OK) {
         h->sheet = sh;
         puts("read");
     } else {
-        print_record_refusal(v);
+        answer_refusal_at(v);
     }
     return true;
 }
 
+static bool call_read(Held *h, Call c)
+{
+    return read_into(h, c, read_sheet);
+}
+
+static bool call_read_text(Held *h, Call c)
+{
+    return read_into(h, c, read_text);
+}
+
 static void print_hex(const uint8_t *b, size_t n)
 {
-    printf("bytes ");
-    for (size_t i = 0; i < n; i++)
-        printf("%02x", (unsigned)b[i]);
+    static const char digit[] = "0123456789abcdef";
+    char line[2 * LENT_MAX];
+
+    for (size_t i = 0; i < n; i++) {
+        line[2 * i] = digit[b[i] >> 4];
+        line[2 * i + 1] = digit[b[i] & 15];
+    }
+    fwrite(line, 2, n, stdout);
+}
+
+_Static_assert(MAX_SHEET <= LENT_MAX && MAX_TEXT <= LENT_MAX,
+               "the longest lent buffer takes every sheet");
+
+/* Writes the held sheet into a lent buffer, and answers the whole of it. */
+static bool write_lent(const Held *h, Call c, const char *word,
+                       WriteSheet *write)
+{
+    uint8_t lent[LENT_MAX];
+    size_t length = get16(c.body), n;
+
+    if (length > LENT_MAX)
+        return false;
+    n = write(&h->sheet, lent);
+    if (n > length) {
+        answer_refusal_at(verdict(R_LENT, 0));
+        return true;
+    }
+    memset(lent + n, LENT_FILL, length - n);
+    printf("%s ", word);
+    print_hex(lent, length);
     putchar('\n');
+    return true;
 }
 
 static bool call_write(Held *h, Call c)
 {
-    uint8_t lent[LENT_MAX];
-    size_t n = get16(c.body);
-    Verdict v;
+    return write_lent(h, c, "bytes", encode_sheet);
+}
 
-    if (n > LENT_MAX)
-        return false;
-    memset(lent, LENT_FILL, sizeof lent);
-    v = write_sheet(&h->sheet, lent, n);
-    if (v.number == OK)
-        print_hex(lent, n);
-    else
-        print_record_refusal(v);
-    return true;
+static bool call_print_text(Held *h, Call c)
+{
+    return write_lent(h, c, "text", print_sheet);
 }
 
 static bool call_calm(Held *h, Call c)
@@ -1427,7 +1952,7 @@ static bool call_show(Held *h, Call c)
     return true;
 }
 
-enum { ANY_LENGTH = -1, CALLS = 19 };
+enum { ANY_LENGTH = -1, CALLS = 21 };
 
 typedef struct {
     bool (*make)(Held *, Call);
@@ -1452,7 +1977,9 @@ static const CallRule CALL_RULES[CALLS] = {
     [15] = { call_set_count,  2 },
     [16] = { call_set_var,    5 },
     [17] = { call_set_number, 6 },
-    [18] = { call_show,       0 }
+    [18] = { call_show,       0 },
+    [19] = { call_read_text,  ANY_LENGTH },
+    [20] = { call_print_text, 2 }
 };
 
 static bool make_call(Held *h, unsigned number, Call c)
@@ -1467,13 +1994,18 @@ static bool make_call(Held *h, unsigned number, Call c)
     return rule->make(h, c);
 }
 
-/* Reads a body, keeping at most BODY_MAX bytes; false if the stream ends. */
+/*
+ * Reads a body, keeping at most BODY_MAX bytes and a 0 behind them, as texts
+ * need it; false if the stream ends.
+ */
 static bool read_body(uint8_t *kept, uint32_t length)
 {
     uint8_t passed[4096];
 
-    if (length <= BODY_MAX)
+    if (length <= BODY_MAX) {
+        kept[length] = 0;
         return fread(kept, 1, length, stdin) == length;
+    }
     while (length > 0) {
         size_t part = length < sizeof passed ? length : sizeof passed;
         if (fread(passed, 1, part, stdin) != part)
@@ -1486,7 +2018,7 @@ static bool read_body(uint8_t *kept, uint32_t length)
 static void replay(void)
 {
     static Held held;
-    static uint8_t body[BODY_MAX];
+    static uint8_t body[BODY_MAX + 1];
     uint8_t head[CALL_HEAD];
     size_t got;
 
@@ -1505,24 +2037,90 @@ static void replay(void)
     }
 }
 
+/* ---- to_text and to_bytes ---- */
+
+/* Lines and columns count from 1; a line feed ends its line. */
+static void print_place(const uint8_t *text, size_t at)
+{
+    unsigned line = 1, column = 1;
+
+    for (size_t i = 0; i < at; i++) {
+        column++;
+        if (text[i] == '\n') {
+            line++;
+            column = 1;
+        }
+    }
+    fprintf(stderr, ", line %u column %u", line, column);
+}
+
+static bool convert(const uint8_t *input, size_t length, ReadSheet *read,
+                    WriteSheet *write)
+{
+    uint8_t output[LENT_MAX];
+    Sheet sh;
+    Verdict v = length > INPUT_MAX ? verdict(R_LENT, 0)
+        : read(input, length, &sh);
+
+    if (v.number == OK) {
+        fwrite(output, 1, write(&sh, output), stdout);
+        return true;
+    }
+    print_refusal_at(stderr, v);
+    if (v.number == R_TEXT)
+        print_place(input, v.at);
+    fputc('\n', stderr);
+    return false;
+}
+
 /* ---- main ---- */
 
-static void bench_stdin(void)
-{
-    static uint8_t input[BENCH_MAX + 1];
+/* Each program answers whether its input was taken. */
 
-    bench(input, fread(input, 1, sizeof input, stdin));
+static bool run_bench(const uint8_t *input, size_t length)
+{
+    bench(input, length);
+    return true;
+}
+
+static bool run_to_text(const uint8_t *input, size_t length)
+{
+    bool taken = convert(input, length, read_sheet, print_sheet);
+
+    if (taken)
+        putchar('\n');
+    return taken;
+}
+
+static bool run_to_bytes(const uint8_t *input, size_t length)
+{
+    return convert(input, length, read_text, encode_sheet);
+}
+
+/* Enough of standard input to see that it is too long, and a 0 behind it. */
+static bool with_input(bool (*program)(const uint8_t *, size_t))
+{
+    static uint8_t input[INPUT_MAX + 2];
+
+    return program(input, fread(input, 1, INPUT_MAX + 1, stdin));
 }
 
 int main(int argc, char **argv)
 {
-    if (argc == 2 && strcmp(argv[1], "bench") == 0) {
-        bench_stdin();
-    } else if (argc == 2 && strcmp(argv[1], "replay") == 0) {
+    const char *name = argc == 2 ? argv[1] : "";
+    bool taken = true;
+
+    if (strcmp(name, "bench") == 0) {
+        taken = with_input(run_bench);
+    } else if (strcmp(name, "replay") == 0) {
         replay();
+    } else if (strcmp(name, "to_text") == 0) {
+        taken = with_input(run_to_text);
+    } else if (strcmp(name, "to_bytes") == 0) {
+        taken = with_input(run_to_bytes);
     } else {
-        fputs("usage: peer bench | peer replay\n", stderr);
+        fputs("usage: peer bench | replay | to_text | to_bytes\n", stderr);
         return 2;
     }
-    return fflush(stdout) == 0 && !ferror(stdout) ? 0 : 1;
+    return taken && fflush(stdout) == 0 && !ferror(stdout) ? 0 : 1;
 }

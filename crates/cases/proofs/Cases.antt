@@ -1,4 +1,4 @@
--- The whole table is right: each row is computed.
+-- The tables are right: each row is computed.
 use mathlib.Core.Path.{refl}
 use lib.Count.{ones, trailingZeros}
 use Rattle.base_number.specs.Number.{shortOf, shortBytes, bitsOf, bitsBytes}
@@ -28,8 +28,13 @@ use Rattle.bench_records.specs.Records.{itemAt, isFeed, feedNext, feedsFrom, fi
 use Rattle.bench_trial.specs.Trial.{outputsAt, trialOf}
 use Rattle.bench_lines.specs.Lines.{itemLine, variableLine, refusalLine, countsLine}
 use Rattle.bench_report.specs.Print.{printed}
+use Rattle.text_scan.specs.Reader as reader
+use Rattle.text_scan.specs.Reader.{loop, repeat, here, sign, spell, series, toEnd}
+use Rattle.text_form.specs.Form.{sheetText}
+use Rattle.text_form.specs.Reading.{treeAnswer, readTextOf}
 use Rattle.cases.specs.Case.{Rights}
 use Rattle.cases.specs.Table.{table}
+use Rattle.cases.specs.TextTable.{printTable, textTable}
 
 -- one row and then the rest
 infixr 5 _&_
@@ -49,3 +54,18 @@ cases =
     refl & refl & refl & refl & refl & refl & refl & refl & refl & refl & refl & refl & refl & refl & refl & refl & refl & refl &
     refl & refl & refl & refl & refl & refl & refl & refl & refl & refl & refl & refl & refl & refl & refl & refl & refl & refl &
     refl & refl & refl & refl & tt
+
+-- texts: what is printed, and what is read
+pub print-cases : Rights printTable
+unfolding digits natural integer sheetText
+print-cases =
+    refl & refl & refl & refl & refl & refl & refl & refl & tt
+
+pub text-cases : Rights textTable
+unfolding stepNames stepVariable unusedZ fieldPlace stepPlaces blank tidyAs memoryNumber vacant four five six seven judgeBy whole headGood
+    checkFrom ending checkOf digits natural loop repeat here sign spell reader.digits series toEnd treeAnswer readTextOf
+text-cases =
+    refl & refl & refl & refl & refl & refl & refl & refl & refl & refl & refl & refl & refl & refl & refl & refl & refl & refl & refl &
+    refl & refl & refl & refl & refl & refl & refl & refl & refl & refl & refl & refl & refl & refl & refl & refl & refl & refl & refl &
+    refl & refl & refl & refl & refl & refl & refl & refl & refl & refl & refl & refl & refl & refl & refl & refl & refl & refl & refl &
+    refl & refl & refl & refl & refl & refl & refl & refl & refl & refl & tt

@@ -137,8 +137,45 @@ pub use Rattle.bench_report.proofs.LongInput.{long-refused}
 pub use Rattle.bench_report.proofs.OneOutcome.{text-at-front}
 -- trying an input: two outcomes that meet the contract are equal, answer and store
 pub use Rattle.bench_trial.proofs.OneOutcome.{tried-one}
+-- sheets as text: an accepted sheet is one that a text of the grammar can stand for
+pub use Rattle.text_form.proofs.GoodSheet.{good-tree-of-accepted}
+-- the inputs, queues, variables and operators that its text stands for are its own
+pub use Rattle.text_form.proofs.Above.{sheet-of-tree}
+-- what is printed of an accepted sheet is read as that sheet
+pub use Rattle.text_form.proofs.RoundTrip.{read-of-sheet-text}
+-- what is printed of a text that was read is the one form of that text, and its sheet passes the check
+pub use Rattle.text_form.proofs.RoundTrip.{one-form-of-read}
+-- printed, read and printed again are the same bytes; read, printed and read again the same answer and sheet
+pub use Rattle.text_form.proofs.RoundTrip.{print-again, read-again}
+-- texts that differ in their blanks alone are read alike
+pub use Rattle.text_form.proofs.RoundTrip.{blanks-free}
+-- two texts that are read as the same sheet are printed alike
+pub use Rattle.text_form.proofs.RoundTrip.{same-sheet-same-text}
+-- and they differ in their blanks alone: both stand for one tree
+pub use Rattle.text_form.proofs.RoundTrip.{same-sheet-same-tree}
+-- a text of the grammar is never refused as outside it
+pub use Rattle.text_form.proofs.Outside.{text-never-outside}
+-- 19 at a byte: what stands before it can be carried on to a text of the grammar, with it nothing can; or at the length of the beginning of a text
+pub use Rattle.text_form.proofs.Outside.{outside-exact}
+-- and wherever that is so, 19 is given there: at the byte, and at the length
+pub use Rattle.text_form.proofs.Outside.{outside-where-dead, outside-where-cut}
+-- nothing behind the refused byte changes the refusal
+pub use Rattle.text_form.proofs.Outside.{outside-by-front}
+-- the refusals of reading a text are 19 at a byte, and 3 to 7 at a record
+pub use Rattle.text_form.proofs.Refusals.{read-refusal-numbers}
+-- the byte at which the output list begins, and that at which the input list does
+pub use Rattle.text_form.proofs.Lists.{outputs-begin, inputs-begin}
+-- a text of the grammar gets its sheet's refusal, then 19 where the first list begins that is not the sheet's own, and else is read
+pub use Rattle.text_form.proofs.Lists.{text-answer}
 -- the table of the paper's cases, every row computed
 pub use Rattle.cases.proofs.Cases.{cases}
+-- a sheet's three forms are one sheet: printed and read back, read and printed, and its bytes and its text are both read as it
+pub use Rattle.text.proofs.Theorems.{read-of-printed, print-of-read, three-forms}
+-- reading a text and printing a sheet have one outcome for every input
+pub use Rattle.text_read.proofs.OneOutcome.{read-text-one}
+pub use Rattle.text_print.proofs.OneOutcome.{print-one}
+-- the tables of texts: what is printed of a sheet, and what is read of a text
+pub use Rattle.cases.proofs.Cases.{print-cases, text-cases}
 -- the table of steps: the code's table is the paper's, row by row
 pub use Rattle.sheet_step.proofs.Rows.{table-right}
 -- its column of arities says how many places a function takes

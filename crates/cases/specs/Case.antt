@@ -16,6 +16,8 @@ use Rattle.run_machine.specs.Machine.{Machine}
 use Rattle.run_machine.specs.Numbers.{stateOf, storeIn}
 use Rattle.rewriter.specs.Calls.{fuseOf, splitOf, reorderOf}
 use Rattle.bench_report.specs.Print.{textOf}
+use Rattle.text_form.specs.Form.{sheetText}
+use Rattle.text_form.specs.Reading.{TextPaper, readTextOf}
 use Rattle.run_machine.specs.Calls.{Call, feedOf, takeOf, fireOf, runOf, readyOf}
 
 pub data Case : Type 0 where
@@ -33,6 +35,8 @@ pub data Case : Type 0 where
   reorders : (sheet : Sheet) (operator : ℕ) (answer : Paper) (after : Sheet) → Case
   prints : (input text : List ℕ) → Case
   readies : (sheet : Sheet) (before : Machine) (answer : Paper) (set count lowest : ℕ) → Case
+  readsText : (bytes : List ℕ) (answer : TextPaper) (sheet : Sheet) → Case
+  printsText : (sheet : Sheet) (text : List ℕ) → Case
 
 -- a call's answer and the numbers that it leaves
 abbrev pub leaving : Paper → Machine → Call
@@ -53,6 +57,8 @@ Right (splits t i k p u) = splitOf t i k ≡ record { answer = p; sheet = u }
 Right (reorders t i p u) = reorderOf t i ≡ record { answer = p; sheet = u }
 Right (prints s text) = textOf s ≡ text
 Right (readies t m p set n low) = readyOf t (stateOf m) (storeIn m) ≡ record { answer = p; set = set; count = n; lowest = low }
+Right (readsText s p t) = readTextOf s ≡ record { answer = p; sheet = t }
+Right (printsText t s) = sheetText (viewSheet t) ≡ s
 
 -- every row of a table
 abbrev pub Rights : List Case → Type 0

@@ -4,3 +4,4 @@ pub mod Firings
 pub mod Rewritings
 pub mod Damaged
 pub mod Table
+pub mod TextTable

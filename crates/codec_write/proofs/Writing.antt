@@ -23,7 +23,7 @@ use Rattle.sheet.specs.Answer.{Paper, paper, accepted, refusedAt, isAccepted}
 use Rattle.sheet.specs.Sheet.{opAt, viewTo, viewSheet}
 use Rattle.sheet.specs.Check.{checkOf}
 use Rattle.codec_write.specs.declared.Written.{Written}
-use Rattle.codec_write.specs.Write.{sheetBytes, Writing, writing, writeOf, Writes}
+use Rattle.codec_write.specs.Write.{sheetBytes, Writing, writing, writingOf, writeOf, Wrote, Writes}
 
 -- the head's bytes, and those of the head and the first i operators
 abbrev pub headOf : Sheet → List ℕ
@@ -83,28 +83,15 @@ writes-all s₀ s l t i e p q =
     q ∙ ap (λ (n : ℕ). sets s₀ n (chain opBytes (viewTo t i .ops))) h ∙ ap (λ (b : List ℕ). sets b (0 + length (headOf t)) (chain opBytes (viewTo t i .ops))) p
     ∙ sets-append (headOf t) (chain opBytes (viewTo t i .ops)) l 0 ∙ ap (λ (n : ℕ). sets l 0 (bytesTo t n)) e ∙ ap (sets l 0) (bytes-all t)
 
--- what writing answers, by the check and the room
-pub written-accepted : (t : Sheet) (l : List ℕ) → checkOf t ≡ accepted → writeOf t l ≡ writing (sheetBytes (viewSheet t)) l
-unfolding writeOf
-written-accepted t l h = rw h
+-- ---- what writing answers, by the check and the room, whatever the bytes are
 
-pub written-refused : (t : Sheet) (l : List ℕ) (b : Paper) → checkOf t ≡ b → isAccepted b ≡ false → writeOf t l ≡ record { answer = b; size = 0; buffer = l }
-unfolding writeOf
-written-refused t l b h e = rw (h, e)
-
-writes-as : (t : Sheet) (l m : List ℕ) (r : Written) (w : Writing) → writeOf t l ≡ w → paper (r .answer) ≡ w .answer → r .size ≡ w .size →
-    m ≡ w .buffer → Writes t l m r
-writes-as t l m r w e a n b =
+wrote-as : (l m : List ℕ) (r : Written) (v w : Writing) → v ≡ w → paper (r .answer) ≡ w .answer → r .size ≡ w .size → m ≡ w .buffer → Wrote v m r
+wrote-as l m r v w e a n b =
     record {
       answer = a ∙ ap (λ (x : Writing). x .answer) (sym e);
       size = n ∙ ap (λ (x : Writing). x .size) (sym e);
       buffer = b ∙ ap (λ (x : Writing). x .buffer) (sym e);
     }
-
-pub writes-refused : (t : Sheet) (l : List ℕ) (a b : Answer) → a ≡ b → paper a ≡ checkOf t → isAccepted (paper b) ≡ false →
-    Writes t l l (record { answer = b; size = 0 })
-writes-refused t l a b d e h =
-    writes-as t l l (record { answer = b; size = 0 }) _ (written-refused t l (paper b) (sym e ∙ ap paper d) h) refl refl refl
 
 pub writing-short : (bytes l : List ℕ) → length l < length bytes → writing bytes l ≡ record { answer = refusedAt 18 0; size = 0; buffer = l }
 writing-short bytes l h = rw (lt-leb (length bytes) (length l) h)
@@ -113,19 +100,59 @@ writing-fits : (bytes l : List ℕ) → length bytes ≤ length l →
     writing bytes l ≡ record { answer = accepted; size = length bytes; buffer = bytes ++ drop (length bytes) l }
 writing-fits bytes l h = rw (le-leb (length bytes) (length l) h)
 
--- a buffer with room for an accepted sheet gets its bytes at its front
-pub write-of-room : (t : Sheet) (l bytes : List ℕ) → checkOf t ≡ accepted → sheetBytes (viewSheet t) ≡ bytes → length bytes ≤ length l →
-    writeOf t l ≡ record { answer = accepted; size = length bytes; buffer = bytes ++ drop (length bytes) l }
-write-of-room t l bytes h e room = written-accepted t l h ∙ ap (λ (b : List ℕ). writing b l) e ∙ writing-fits bytes l room
+module _ (t : Sheet) (bytes l : List ℕ) where
+  writing-accepted : checkOf t ≡ accepted → writingOf t bytes l ≡ writing bytes l
+  writing-accepted h = rw h
+
+  writing-refused : (b : Paper) → checkOf t ≡ b → isAccepted b ≡ false → writingOf t bytes l ≡ record { answer = b; size = 0; buffer = l }
+  writing-refused b h e = rw (h, e)
+
+  pub wrote-refused : (a b : Answer) → a ≡ b → paper a ≡ checkOf t → isAccepted (paper b) ≡ false →
+      Wrote (writingOf t bytes l) l (record { answer = b; size = 0 })
+  wrote-refused a b d e h =
+      wrote-as l l (record { answer = b; size = 0 }) _ _ (writing-refused (paper b) (sym e ∙ ap paper d) h) refl refl refl
+
+  pub wrote-short : (n : ℕ) → checkOf t ≡ accepted → n ≡ length bytes → length l < n →
+      Wrote (writingOf t bytes l) l (record { answer = RefusedAt 18 0; size = 0 })
+  wrote-short n h e b =
+      wrote-as l l (record { answer = RefusedAt 18 0; size = 0 }) _ _ (writing-accepted h ∙ writing-short bytes l (omega arith)) refl refl refl
+
+  pub wrote-done : (n : ℕ) (after : List ℕ) → checkOf t ≡ accepted → n ≡ length bytes → n ≤ length l → after ≡ sets l 0 bytes →
+      Wrote (writingOf t bytes l) after (record { answer = Done; size = n })
+  wrote-done n after h e b d =
+      wrote-as l after (record { answer = Done; size = n }) _ _ (writing-accepted h ∙ writing-fits bytes l (omega arith)) refl e
+      (d ∙ sets-front bytes l (omega arith))
+
+  pub writing-of-room : checkOf t ≡ accepted → length bytes ≤ length l →
+      writingOf t bytes l ≡ record { answer = accepted; size = length bytes; buffer = bytes ++ drop (length bytes) l }
+  writing-of-room h room = writing-accepted h ∙ writing-fits bytes l room
+
+-- ---- and for the bytes of the sheet
+
+pub written-accepted : (t : Sheet) (l : List ℕ) → checkOf t ≡ accepted → writeOf t l ≡ writing (sheetBytes (viewSheet t)) l
+unfolding writeOf
+written-accepted t l h = writing-accepted t (sheetBytes (viewSheet t)) l h
+
+pub written-refused : (t : Sheet) (l : List ℕ) (b : Paper) → checkOf t ≡ b → isAccepted b ≡ false → writeOf t l ≡ record { answer = b; size = 0; buffer = l }
+unfolding writeOf
+written-refused t l b h e = writing-refused t (sheetBytes (viewSheet t)) l b h e
+
+pub writes-refused : (t : Sheet) (l : List ℕ) (a b : Answer) → a ≡ b → paper a ≡ checkOf t → isAccepted (paper b) ≡ false →
+    Writes t l l (record { answer = b; size = 0 })
+unfolding writeOf
+writes-refused t l a b d e h = wrote-refused t (sheetBytes (viewSheet t)) l a b d e h
 
 module _ (t : Sheet) (l : List ℕ) (n : ℕ) (h : checkOf t ≡ accepted) (e : n ≡ length (sheetBytes (viewSheet t))) where
   pub writes-short : length l < n → Writes t l l (record { answer = RefusedAt 18 0; size = 0 })
-  writes-short b =
-      let w = written-accepted t l h ∙ writing-short (sheetBytes (viewSheet t)) l (omega arith) in
-      writes-as t l l (record { answer = RefusedAt 18 0; size = 0 }) _ w refl refl refl
+  unfolding writeOf
+  writes-short b = wrote-short t (sheetBytes (viewSheet t)) l n h e b
 
   pub writes-done : (after : List ℕ) → n ≤ length l → after ≡ sets l 0 (sheetBytes (viewSheet t)) → Writes t l after (record { answer = Done; size = n })
-  writes-done after b d =
-      let bytes = sheetBytes (viewSheet t) in
-      let w = written-accepted t l h ∙ writing-fits bytes l (omega arith) in
-      writes-as t l after (record { answer = Done; size = n }) _ w refl e (d ∙ sets-front bytes l (omega arith))
+  unfolding writeOf
+  writes-done after b d = wrote-done t (sheetBytes (viewSheet t)) l n after h e b d
+
+-- a buffer with room for an accepted sheet gets its bytes at its front
+pub write-of-room : (t : Sheet) (l bytes : List ℕ) → checkOf t ≡ accepted → sheetBytes (viewSheet t) ≡ bytes → length bytes ≤ length l →
+    writeOf t l ≡ record { answer = accepted; size = length bytes; buffer = bytes ++ drop (length bytes) l }
+unfolding writeOf
+write-of-room t l bytes h e room = ap (λ (b : List ℕ). writingOf t b l) e ∙ writing-of-room t bytes l h room

@@ -31,11 +31,18 @@ writing bytes l =
     (record { answer = accepted; size = length bytes; buffer = bytes ++ drop (length bytes) l })
     (record { answer = refusedAt 18 0; size = 0; buffer = l })
 
-unfoldable pub writeOf : Sheet → List ℕ → Writing
-writeOf t l = cond (isAccepted (checkOf t)) (writing (sheetBytes (viewSheet t)) l) (record { answer = checkOf t; size = 0; buffer = l })
+-- the sheet's own refusal, or what writing its bytes answers
+abbrev pub writingOf : Sheet → List ℕ → List ℕ → Writing
+writingOf t bytes l = cond (isAccepted (checkOf t)) (writing bytes l) (record { answer = checkOf t; size = 0; buffer = l })
 
--- what the function answers, against the definition
-pub record Writes (t : Sheet) (before after : List ℕ) (r : Written) : Type 0 where
-  pub answer : paper (r .answer) ≡ writeOf t before .answer
-  pub size : r .size ≡ writeOf t before .size
-  pub buffer : after ≡ writeOf t before .buffer
+unfoldable pub writeOf : Sheet → List ℕ → Writing
+writeOf t l = writingOf t (sheetBytes (viewSheet t)) l
+
+-- what a function answers and leaves in the buffer, against a definition
+pub record Wrote (w : Writing) (after : List ℕ) (r : Written) : Type 0 where
+  pub answer : paper (r .answer) ≡ w .answer
+  pub size : r .size ≡ w .size
+  pub buffer : after ≡ w .buffer
+
+abbrev pub Writes : Sheet → List ℕ → List ℕ → Written → Type 0
+Writes t before after r = Wrote (writeOf t before) after r

@@ -9,10 +9,10 @@ use sheet::Sheet;
 ghost use Prim.Native.Nat.{_<_};
 ghost use lib.ListN.{length};
 
-// How many bytes call 3 lends at the most, and what each of them is before the call.
-const LENT: usize = 4096;
+// How many bytes a call lends at the most, and what each of them is before the call.
+pub const LENT: usize = 4096;
 
-const BEFORE: u8 = 170;
+pub const BEFORE: u8 = 170;
 
 // A sheet, and how many bytes of text wait.
 pub struct Sheeted {
@@ -48,15 +48,20 @@ pub fn call_read(body: &[u8], t: Sheet, out: &mut [u8], used: usize) -> Sheeted
     changed(a, new, t, b"read", &mut *out, used)
 }
 
+// How many bytes a body asks to be lent. One that is no such number asks for too many.
+pub fn asked(body: &[u8]) -> usize {
+    if body.len() != 2 {
+        return LENT + 1;
+    }
+    base_number::short_at(body, 0)
+}
+
 // 3
 pub fn call_write(body: &[u8], t: Sheet, out: &mut [u8], used: usize) -> usize
     requires { ⌜ used < length (now out) ⌝ }
     ensures { λ r. ⌜ r < length (now (out .exit)) ⌝ }
 {
-    if body.len() != 2 {
-        return put_bad(&mut *out, used);
-    }
-    let n = base_number::short_at(body, 0);
+    let n = asked(body);
     let mut lent = [BEFORE; LENT];
     if LENT < n {
         return put_bad(&mut *out, used);
@@ -71,17 +76,18 @@ fn write_lent(t: Sheet, lent: &mut [u8], out: &mut [u8], used: usize) -> usize
 {
     let w = codec_write::write(t, &mut *lent);
     let a = w.answer;
-    put_written(&mut *out, used, a, &*lent)
+    put_written(&mut *out, used, a, b"bytes ", &*lent)
 }
 
-fn put_written(out: &mut [u8], used: usize, a: Answer, s: &[u8]) -> usize
+// The refusal's line, or a word and the whole lent buffer.
+pub fn put_written(out: &mut [u8], used: usize, a: Answer, word: &[u8], s: &[u8]) -> usize
     requires { ⌜ used < length (now out) ⌝ }
     ensures { λ r. ⌜ r < length (now (out .exit)) ⌝ }
 {
     if !replay_held::is_done(a) {
         return put_answer(&mut *out, used, a, b"");
     }
-    let at = put_text(&mut *out, used, b"bytes ");
+    let at = put_text(&mut *out, used, word);
     let at = put_hex(&mut *out, at, s);
     put_byte(&mut *out, at, b'\n')
 }

@@ -12,7 +12,7 @@ pub enum Changes {
 // What of sheet and state a call may change: the sheet, the state, or neither.
 fn may_change(call: u8) -> Changes {
     match call {
-        2 | 6 | 7 | 8 => Changes::Sheet,
+        2 | 6 | 7 | 8 | 19 => Changes::Sheet,
         9 | 10 | 11 | 12 | 13 | 15 | 16 => Changes::State,
         _ => Changes::Neither,
     }

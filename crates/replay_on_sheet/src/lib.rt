@@ -1,4 +1,4 @@
-// The calls that leave the sheet as it is, 1 and 3 to 5: the body's numbers taken out, the public function called, its answer printed.
+// The calls that leave the sheet as it is, 1, 3 to 5 and 20: the body's numbers taken out, the public function called, its answer printed.
 // A body whose length is not the call's, or a number outside its bounds, prints `bad call` and changes nothing.
 use replay_printer::put_answer;
 use replay_printer::put_bad;
@@ -111,6 +111,7 @@ pub fn ask_sheet(
         3 => replay_bytes::call_write(body, t, &mut *out, used),
         4 => call_calm(body, t, &mut *out, used),
         5 => call_worst(body, t, &mut *out, used),
+        20 => replay_text::call_print_text(body, t, &mut *out, used),
         _ => put_bad(&mut *out, used),
     }
 }

@@ -134,7 +134,9 @@ pub fn put_answer(out: &mut [u8], used: usize, a: Answer, done: &[u8]) -> usize
 {
     match a {
         Answer::Done => put_line(&mut *out, used, done),
-        Answer::RefusedAt { number, spot } => put_refused_at(&mut *out, used, number, spot),
+        Answer::RefusedAt { number, spot } => {
+            put_refused_at(&mut *out, used, number, b" at record", spot as u64)
+        }
         Answer::Refused { number } => put_refused(&mut *out, used, number),
     }
 }
@@ -147,12 +149,13 @@ pub fn put_refused(out: &mut [u8], used: usize, number: u8) -> usize
     put_byte(&mut *out, at, b'\n')
 }
 
-pub fn put_refused_at(out: &mut [u8], used: usize, number: u8, spot: u8) -> usize
+// A refusal with what the place is, a record or a byte, and which.
+pub fn put_refused_at(out: &mut [u8], used: usize, number: u8, place: &[u8], spot: u64) -> usize
     requires { ⌜ used < length (now out) ⌝ }
     ensures { λ r. ⌜ r < length (now (out .exit)) ⌝ }
 {
     let at = put_named(&mut *out, used, b"refused", number as u64);
-    let at = put_named(&mut *out, at, b" at record", spot as u64);
+    let at = put_named(&mut *out, at, place, spot);
     put_byte(&mut *out, at, b'\n')
 }
 

@@ -1,4 +1,4 @@
-// The calls that change the sheet: the rewritings, 6 to 8, made and printed as the other calls on a sheet, and read, 2.
+// The calls that change the sheet: the rewritings, 6 to 8, made and printed as the other calls on a sheet, and the two that read one, 2 and 19.
 use replay_bytes::Sheeted;
 use replay_held::Holding;
 use rewrite_rules::Rewritten;
@@ -68,7 +68,8 @@ fn sheet_call(call: u8, body: &[u8], t: Sheet, out: &mut [u8], used: usize) -> S
         2 => replay_bytes::call_read(body, t, &mut *out, used),
         6 => call_fuse(body, t, &mut *out, used),
         7 => call_split(body, t, &mut *out, used),
-        _ => call_reorder(body, t, &mut *out, used),
+        8 => call_reorder(body, t, &mut *out, used),
+        _ => replay_text::call_read_text(body, t, &mut *out, used),
     }
 }
 

@@ -7,6 +7,9 @@ use borrow.Author.Needs.{needs}
 use Rattle.replay_bytes.proofs.call_write.Statement.{statement}
 use Rattle.replay_bytes.proofs.call_write.Tie as tie
 
+asked-requires : tie.Need-asked-requires
+asked-requires c κs = search needs
+
 put-bad-requires : tie.Need-put-bad-requires
 put-bad-requires c κs = search needs
 
@@ -15,18 +18,6 @@ same-length c = search needs
 
 returns : tie.Need-returns
 returns c = search needs
-
-short-at-requires : tie.Need-short-at-requires
-short-at-requires c κs = search needs
-
-put-bad-requires-2 : tie.Need-put-bad-requires-2
-put-bad-requires-2 c κs = search needs
-
-same-length-2 : tie.Need-same-length-2
-same-length-2 c = search needs
-
-returns-2 : tie.Need-returns-2
-returns-2 c = search needs
 
 array-borrow-prefix-lent : tie.Need-array-borrow-prefix-lent
 array-borrow-prefix-lent c = search needs
@@ -37,25 +28,22 @@ slice-aggregate-write-lent c = sym (length-take-le _ _ (omega arith))
 write-lent-requires : tie.Need-write-lent-requires
 write-lent-requires c κs = search needs
 
-same-length-3 : tie.Need-same-length-3
-same-length-3 c = search needs
+same-length-2 : tie.Need-same-length-2
+same-length-2 c = search needs
 
-returns-3 : tie.Need-returns-3
-returns-3 c = search needs
+returns-2 : tie.Need-returns-2
+returns-2 c = search needs
 
 pub call-write-spec : {M : Type 1} → statement M
 call-write-spec =
     tie.close
     (tie.spec
+    asked-requires
     put-bad-requires
     same-length
     returns
-    short-at-requires
-    put-bad-requires-2
-    same-length-2
-    returns-2
     array-borrow-prefix-lent
     slice-aggregate-write-lent
     write-lent-requires
-    same-length-3
-    returns-3)
+    same-length-2
+    returns-2)

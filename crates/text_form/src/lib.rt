@@ -1,0 +1,1 @@
+// No code: the text of a sheet, and the sheet that a text stands for.

@@ -1,0 +1,3 @@
+pub mod Readers
+pub mod Tokens
+pub mod Begins

@@ -1,0 +1,2 @@
+pub mod OperatorLaws
+pub mod WayLaws

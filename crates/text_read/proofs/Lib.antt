@@ -1,0 +1,4 @@
+pub mod Came
+pub mod Told
+pub mod AnswerLaws
+pub mod OneOutcome

@@ -1,0 +1,9 @@
+pub mod Binding
+pub mod Exact
+pub mod ExactBytes
+pub mod Whole
+pub mod Places
+pub mod Going
+pub mod Sound
+pub mod Mapped
+pub mod Filled

@@ -1,0 +1,2 @@
+pub mod HighestLaws
+pub mod BuiltLaws
