@@ -21,3 +21,7 @@ VARIABLES = 16
 
 abbrev pub OPERATORS : ℕ
 OPERATORS = 16
+
+-- the most bytes of an input of a program
+abbrev pub INPUT_BYTES : ℕ
+INPUT_BYTES = 32768

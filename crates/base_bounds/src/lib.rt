@@ -14,3 +14,6 @@ pub const QUEUES: u8 = 24;
 pub const VARIABLES: u8 = 16;
 
 pub const OPERATORS: u8 = 16;
+
+// The most bytes of an input of a program.
+pub const INPUT_BYTES: usize = 32768;

@@ -15,7 +15,7 @@ use Rattle.base_lists.proofs.Build.{same-or}
 use Rattle.sheet_operator.specs.Op.{Abstract}
 use Rattle.sheet_judge.specs.Judge.{known, whole}
 use Rattle.sheet_format.specs.Record.{opBytes}
-use Rattle.base_bounds.specs.Bounds.{OPERATORS}
+use Rattle.base_bounds.specs.Bounds.{OPERATORS, INPUT_BYTES}
 use Rattle.sheet_format.specs.Head.{HEAD_BYTES, headNumber, headGood}
 use Rattle.sheet_format.proofs.Heads.{ranges-of-good, head-good-of-number, head-room, head-number-most}
 use Rattle.sheet.specs.declared.Answer.the-variants.{Done, RefusedAt}
@@ -35,7 +35,7 @@ use Rattle.codec_read.proofs.Chain.{Holds, Halts, read-cases}
 use Rattle.codec_read.proofs.Reading.{front-good, front-bad}
 use Rattle.bench_records.specs.Records.{start, feedsFrom}
 use Rattle.bench_trial.specs.declared.Tried.{Tried}
-use Rattle.bench_trial.specs.Trial.{refusal, fedTrial, keptTrial, INPUT, trialOf}
+use Rattle.bench_trial.specs.Trial.{refusal, fedTrial, keptTrial, trialOf}
 use Rattle.bench_trial.specs.Tries.{triedOf, Tries, WholeFront, trialAfter}
 use Rattle.bench_trial.proofs.Ending.{refused-tries}
 
@@ -144,15 +144,15 @@ front-small s number spot e =
 
 -- ---- an input by its front
 
-pub input-long : (s : List ℕ) → INPUT < length s → trialOf s ≡ refusal 18 0
+pub input-long : (s : List ℕ) → INPUT_BYTES < length s → trialOf s ≡ refusal 18 0
 unfolding trialOf
-input-long s l = rw (lt-leb (length s) INPUT l)
+input-long s l = rw (lt-leb (length s) INPUT_BYTES l)
 
-pub input-front : (s : List ℕ) (k : Kept) → length s ≤ INPUT → frontOf s ≡ k → trialOf s ≡ keptTrial k
+pub input-front : (s : List ℕ) (k : Kept) → length s ≤ INPUT_BYTES → frontOf s ≡ k → trialOf s ≡ keptTrial k
 unfolding trialOf
-input-front s k l e = rw (le-leb (length s) INPUT l) (ap keptTrial e)
+input-front s k l e = rw (le-leb (length s) INPUT_BYTES l) (ap keptTrial e)
 
-module _ (s : List ℕ) (l : length s ≤ INPUT) (f : codec.Front) (h : Fronts s f) where
+module _ (s : List ℕ) (l : length s ≤ INPUT_BYTES) (f : codec.Front) (h : Fronts s f) where
   -- the sheet is refused
   refused-as : (k : Kept) (number spot : ℕ) → frontOf s ≡ k → f .answer ≡ RefusedAt number spot → trialOf s ≡ refusal number spot
   refused-as (stopped m p) number spot e d =

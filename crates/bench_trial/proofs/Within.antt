@@ -13,7 +13,7 @@ use Rattle.base_lists.proofs.Build.{order, same-or}
 use Rattle.sheet_operator.specs.Op.{Abstract}
 use Rattle.sheet_judge.specs.Judge.{known, whole}
 use Rattle.sheet_format.specs.Record.{cut}
-use Rattle.base_bounds.specs.Bounds.{OPERATORS}
+use Rattle.base_bounds.specs.Bounds.{OPERATORS, INPUT_BYTES}
 use Rattle.sheet.specs.Answer.{accepted}
 use Rattle.sheet.specs.Sheet.{viewSheet, memorySheet}
 use Rattle.sheet.specs.Check.{Kept, stopped, kept, nextRecord, checkOf}
@@ -28,7 +28,7 @@ use Rattle.bench_records.specs.Records.{kindAt, queueAt, itemAt, feedBody, feed
 use Rattle.bench_records.specs.Records.{start, Feeds, unfed, fed, feedsFrom, Firings, unfired, firings, before, firingsFrom}
 use Rattle.bench_records.proofs.Listing.{firings-end, firings-stop, firings-next}
 use Rattle.bench_records.proofs.Feeding.{some-number, whole-body, item-wide, feeds-over, feeds-by}
-use Rattle.bench_trial.specs.Trial.{Trial, refusal, ended, firedTrial, fedTrial, keptTrial, INPUT, trialOf}
+use Rattle.bench_trial.specs.Trial.{Trial, refusal, ended, firedTrial, fedTrial, keptTrial, trialOf}
 use Rattle.bench_trial.proofs.Front.{front-keeps, front-stops, front-small, input-long, input-front}
 use Rattle.bench_trial.proofs.Narrow.{NarrowM, item-narrow, feed-narrow, run-narrow, start-narrow}
 use Rattle.sheet_format.proofs.Fronts.{drop-below}
@@ -142,7 +142,7 @@ pub record Ended (f : Trial) : Type 0 where
   pub ran : Ran
   pub good : GoodM sheet (ran .machine)
   pub narrow : NarrowM (ran .machine)
-  pub few : ran .fired + ran .skipped ≤ INPUT
+  pub few : ran .fired + ran .skipped ≤ INPUT_BYTES
   pub same : f ≡ ended sheet ran
 
 pub record Refusal (f : Trial) : Type 0 where
@@ -150,14 +150,14 @@ pub record Refusal (f : Trial) : Type 0 where
   pub spot : ℕ
   pub some : 1 ≤ number
   pub small : number ≤ 18
-  pub early : spot ≤ INPUT + INPUT + AFTER
+  pub early : spot ≤ INPUT_BYTES + INPUT_BYTES + AFTER
   pub same : f ≡ refusal number spot
 
-refusal-in : (r k : ℕ) → 1 ≤ r → r ≤ 18 → k ≤ INPUT + INPUT + AFTER → Refusal (refusal r k)
+refusal-in : (r k : ℕ) → 1 ≤ r → r ≤ 18 → k ≤ INPUT_BYTES + INPUT_BYTES + AFTER → Refusal (refusal r k)
 refusal-in r k i a b = record { number = r; spot = k; some = i; small = a; early = b; same = refl }
 
 module _ (a : Abstract) (ok : checkOf (memorySheet a) ≡ accepted) (view : viewSheet (memorySheet a) ≡ a) (sound : Sound a) where
-  fired-in : (m : Machine) (f : Firings) → GoodM a m → NarrowM m → FiringsIn INPUT (INPUT + INPUT + AFTER) f →
+  fired-in : (m : Machine) (f : Firings) → GoodM a m → NarrowM m → FiringsIn INPUT_BYTES (INPUT_BYTES + INPUT_BYTES + AFTER) f →
       Ended (firedTrial a m f) ⊎ Refusal (firedTrial a m f)
   fired-in m (unfired r k) g w h = inr (refusal-in r k (h .0) (omega (arith, h .1)) (h .2))
   fired-in m (firings qs) g w h =
@@ -174,12 +174,12 @@ module _ (a : Abstract) (ok : checkOf (memorySheet a) ≡ accepted) (view : view
         same = refl;
       })
 
-  fed-in : (f : Feeds) → FeedsIn a INPUT (INPUT + AFTER) f → Ended (fedTrial a f) ⊎ Refusal (fedTrial a f)
+  fed-in : (f : Feeds) → FeedsIn a INPUT_BYTES (INPUT_BYTES + AFTER) f → Ended (fedTrial a f) ⊎ Refusal (fedTrial a f)
   fed-in (unfed r k) h = inr (refusal-in r k (h .0) (omega (arith, h .1)) (omega (arith, h .2)))
   fed-in (fed m k rest) h =
       fired-in m (firingsFrom (length rest) k rest) (h .0) (h .1)
-      (firings-more (length rest) INPUT (INPUT + INPUT + AFTER) (h .3) (firingsFrom (length rest) k rest)
-      (firings-in (length rest) k (INPUT + INPUT + AFTER) rest (omega (arith, h .2, h .3))))
+      (firings-more (length rest) INPUT_BYTES (INPUT_BYTES + INPUT_BYTES + AFTER) (h .3) (firingsFrom (length rest) k rest)
+      (firings-in (length rest) k (INPUT_BYTES + INPUT_BYTES + AFTER) rest (omega (arith, h .2, h .3))))
 
 -- ---- the front
 
@@ -188,7 +188,7 @@ gap-or-fed : (w : Bool) (a : Abstract) (f : Feeds) (k : ℕ) → k ≤ AFTER →
 gap-or-fed true a f k l h = h refl
 gap-or-fed false a f k l h = inr (refusal-in 5 k (omega arith) (omega arith) (omega arith))
 
-module _ (s : List ℕ) (below : (k : ℕ) → getD s k 0 < 256) (l : length s ≤ INPUT) where
+module _ (s : List ℕ) (below : (k : ℕ) → getD s k 0 < 256) (l : length s ≤ INPUT_BYTES) where
   kept-in : (k : Kept) → frontOf s ≡ k → Ended (keptTrial k) ⊎ Refusal (keptTrial k)
   kept-in (stopped r k) e = let p = front-small s r k e in let z = front-stops s r k e in
       inr (refusal-in r k (omega arith) (omega (arith, p .0)) (omega (arith, p .1)))
@@ -202,15 +202,15 @@ module _ (s : List ℕ) (below : (k : ℕ) → getD s k 0 < 256) (l : length s �
       (λ w.
       let sound : Sound a = subst (λ (b : Abstract). Sound b) (g .view) (sound-of-accepted (memorySheet a) (g .accepted w)) in
       fed-in a (g .accepted w) (g .view) sound (feedsFrom (length rest) a start (nextRecord a) rest)
-      (feeds-in a sound INPUT (INPUT + AFTER) (length rest) (nextRecord a) start rest (omega arith) (omega arith) under
+      (feeds-in a sound INPUT_BYTES (INPUT_BYTES + AFTER) (length rest) (nextRecord a) start rest (omega arith) (omega arith) under
       (fresh-good a sound) start-narrow))
 
 -- every input of bytes
 pub trial-within : (s : List ℕ) → ((k : ℕ) → getD s k 0 < 256) → Ended (trialOf s) ⊎ Refusal (trialOf s)
 trial-within s below =
     ⊎-elim
-    (λ (l : INPUT < length s). subst (λ (f : Trial). Ended f ⊎ Refusal f) (sym (input-long s l))
+    (λ (l : INPUT_BYTES < length s). subst (λ (f : Trial). Ended f ⊎ Refusal f) (sym (input-long s l))
     (inr (refusal-in 18 0 (omega arith) (omega arith) (omega arith))))
-    (λ (l : length s ≤ INPUT). subst (λ (f : Trial). Ended f ⊎ Refusal f) (sym (input-front s (frontOf s) l refl))
+    (λ (l : length s ≤ INPUT_BYTES). subst (λ (f : Trial). Ended f ⊎ Refusal f) (sym (input-front s (frontOf s) l refl))
     (kept-in s below l (frontOf s) refl))
-    (order INPUT (length s))
+    (order INPUT_BYTES (length s))

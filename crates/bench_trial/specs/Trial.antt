@@ -6,6 +6,7 @@ use lib.Dec.{eqb, leb}
 use lib.ListN.{length, getD, take}
 use lib.IntN.{ℤ}
 use Rattle.base_lists.specs.Lists.{build, chain}
+use Rattle.base_bounds.specs.Bounds.{INPUT_BYTES}
 use Rattle.sheet_operator.specs.Op.{Abstract}
 use Rattle.sheet_judge.specs.Judge.{known, whole}
 use Rattle.sheet.specs.Check.{Kept, stopped, kept, nextRecord}
@@ -37,11 +38,8 @@ keptTrial (kept a rest) =
     cond (whole (a .queues) (known a)) (fedTrial a (feedsFrom (length rest) a start (nextRecord a) rest)) (refusal 5 (nextRecord a))
 
 -- over-long input is 18, before all else
-abbrev pub INPUT : ℕ
-INPUT = 32768
-
 unfoldable pub trialOf : List ℕ → Trial
-trialOf s = cond (leb (length s) INPUT) (keptTrial (frontOf s)) (refusal 18 0)
+trialOf s = cond (leb (length s) INPUT_BYTES) (keptTrial (frontOf s)) (refusal 18 0)
 
 -- ---- what a run's end shows
 

@@ -5,6 +5,7 @@ use mathlib.Core.List.{List}
 use Prim.Native.Nat.{ℕ, _≤_}
 use lib.ListN.{length, drop}
 use lib.IntN.{ℤ}
+use Rattle.base_bounds.specs.Bounds.{INPUT_BYTES}
 use Rattle.sheet.specs.declared.Sheet.{Sheet}
 use Rattle.sheet.specs.Answer.{accepted}
 use Rattle.sheet.specs.Sheet.{viewSheet, memorySheet, noSheet}
@@ -17,7 +18,7 @@ use Rattle.run_machine.specs.Working.{Stands}
 use Rattle.bench_records.specs.Records.{Feeds, start, allFed, machineIn}
 use Rattle.bench_records.specs.Looks.{feedsAfter}
 use Rattle.bench_trial.specs.declared.Tried.{Tried}
-use Rattle.bench_trial.specs.Trial.{Trial, refusal, ended, fedTrial, INPUT, atRest}
+use Rattle.bench_trial.specs.Trial.{Trial, refusal, ended, fedTrial, atRest}
 
 -- ---- the whole
 
@@ -53,7 +54,7 @@ pub record WholeFront (t : Sheet) (end : ℕ) (s : List ℕ) : Type 0 where
   pub sheet : checkOf t ≡ accepted
   pub same : memorySheet (viewSheet t) ≡ t
   pub inside : end ≤ length s
-  pub short : length s ≤ INPUT
+  pub short : length s ≤ INPUT_BYTES
 
 -- what the bytes after a sheet come to
 abbrev pub trialAfter : Sheet → List ℕ → Trial

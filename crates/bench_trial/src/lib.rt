@@ -16,7 +16,7 @@ ghost use Rattle.bench_trial.specs.Trial.{refusal, ended, trialOf};
 ghost use Rattle.bench_trial.specs.Tries.{triedOf, Tries, WholeFront, trialAfter, firedAfter, Feedable, FeedsTo};
 
 // The longest input that is taken.
-pub const INPUT: usize = 32768;
+pub const INPUT: usize = base_bounds::INPUT_BYTES;
 
 // More firings than the longest input has.
 const LIST: usize = INPUT / bench_records::FIRING_BYTES + 1;

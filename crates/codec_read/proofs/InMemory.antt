@@ -5,21 +5,17 @@ use mathlib.Core.Bool.{true}
 use mathlib.Core.List.{List}
 use Prim.Native.Nat.{ℕ, _<_, _≤_}
 use native.Mathlib.Omega.{arith}
-use lib.ListN.{length, getD}
+use lib.ListN.{length}
 use Rattle.base_lists.proofs.Build.{take-of-build}
-use Rattle.sheet_step.specs.Step.{noStep}
 use Rattle.sheet_operator.specs.Op.{Op, double, Abstract}
-use Rattle.sheet_operator.specs.Memory.{view, viewAs, Held}
-use Rattle.sheet_operator.specs.declared.Kind.{Kind}
-use Rattle.sheet_operator.specs.declared.Kind.the-variants.{Empty, Line, Latest, Double, Deal, Gather}
-use Rattle.sheet_operator.specs.declared.Operator.{Operator}
+use Rattle.sheet_operator.specs.Memory.{view}
 use Rattle.sheet_operator.proofs.ViewLaws.{small-view}
 use Rattle.sheet_judge.specs.Judge.{known, judge, whole}
 use Rattle.sheet_format.specs.Head.{headGood}
 use Rattle.base_bounds.specs.Bounds.{OPERATORS}
 use Rattle.sheet_format.proofs.Sizes.{FitsOp}
 use Rattle.sheet_format.proofs.Heads.{ranges-of-good}
-use Rattle.sheet_format.proofs.Read.{steps-fit}
+use Rattle.sheet_format.proofs.Read.{fits-as}
 use Rattle.sheet.specs.declared.Sheet.{Sheet}
 use Rattle.sheet.specs.Sheet.{opAt, viewTo, viewSheet, memorySheet, HeldSheet}
 use Rattle.sheet.proofs.Accepted.{Accepted}
@@ -31,15 +27,6 @@ pub accepted-memory : (b : Abstract) → headGood (b .inputs) (b .queues) (b .va
     whole (b .queues) (known b) ≡ true → Accepted (memorySheet b)
 accepted-memory b good f w =
     accepted-placed b (ranges-of-good (b .inputs) (b .queues) (b .variables) (length (b .ops)) good .count) (f .small) good (f .judged) w
-
--- an operator that the program holds has numbers that fit
-fits-as : (k : Kind) (o : Operator) → Held o → FitsOp (viewAs k o)
-fits-as Empty o h = tt
-fits-as Line o h = steps-fit (o .count) (λ (k : ℕ). getD (o .steps) k noStep) (λ k. record { low = h .step-lows k; high = h .step-highs k })
-fits-as Latest o h = tt
-fits-as Double o h = tt
-fits-as Deal o h = tt
-fits-as Gather o h = tt
 
 module _ (t : Sheet) (good : Accepted t) where
   within : (k : ℕ) → k < length (viewSheet t .ops) → k < t .count

@@ -11,7 +11,7 @@ use Rattle.base_lists.proofs.Members.{all-of-members}
 use Rattle.sheet_operator.specs.Op.{names}
 use Rattle.sheet_operator.specs.Memory.{view, Ready}
 use Rattle.sheet_operator.proofs.ViewLaws.{ready-of-number, Small, small-view}
-use Rattle.sheet_judge.specs.Seen.{FLAGS}
+use Rattle.sheet_sets.specs.Sets.{FLAGS}
 use Rattle.sheet.specs.Answer.{accepted, paper}
 use Rattle.sheet.specs.Check.{checkOf}
 use Rattle.sheet.specs.Sheet.{opAt}

@@ -39,14 +39,14 @@ fn names_apart(t: Sheet) -> bool
     ensures { λ r. ⌜ r ≡ isCalm (viewSheet t) ⌝ }
 {
     let n = t.count as usize;
-    let mut named = [false; sheet_judge::FLAGS];
+    let mut named = [false; sheet_sets::FLAGS];
     let mut i = 0;
     while i < n {
         let o = t.operators[i];
-        if !sheet_judge::names_apart(named, o) {
+        if !sheet_sets::names_apart(named, o) {
             return false;
         }
-        let next = sheet_judge::names_flagged(named, o);
+        let next = sheet_sets::names_flagged(named, o);
         named = next;
         i += 1;
     }

@@ -1,5 +1,7 @@
 // One call of the stream: made by what it may change, answered, and what is held afterwards.
 use replay_held::Holding;
+use run_machine::State;
+use sheet::Sheet;
 ghost use Prim.Native.Nat.{_<_};
 ghost use lib.ListN.{length};
 
@@ -18,26 +20,25 @@ fn may_change(call: u8) -> Changes {
     }
 }
 
-fn change_state(call: u8, body: &[u8], held: Holding, store: &mut [i32], out: &mut [u8]) -> Holding
-    requires { ⌜ held .used < length (now out) ⌝ }
-    ensures { λ r. ⌜ r .used < length (now (out .exit)) ⌝ }
+// The calls that change neither sheet nor state.
+fn other_call(
+    call: u8,
+    body: &[u8],
+    t: Sheet,
+    state: State,
+    store: &mut [i32],
+    text: &mut [u8],
+    out: &mut [u8],
+    used: usize,
+) -> usize
+    requires { ⌜ used < length (now out) ⌝ }
+    ensures { λ r. ⌜ r < length (now (out .exit)) ⌝ }
 {
-    let sheet = held.sheet;
-    let before = held.state;
-    let r = replay_numbers::state_call(
-        call,
-        body,
-        sheet,
-        before,
-        &mut *store,
-        &mut *out,
-        held.used,
-    );
-    let state = r.state;
-    Holding {
-        sheet,
-        state,
-        used: r.used,
+    match call {
+        14 => replay_runs::call_ready(body, t, state, &*store, &mut *out, used),
+        17 => replay_runs::set_number(body, &mut *store, &mut *out, used),
+        18 => replay_show::show_all(body, state, &*store, &mut *out, used),
+        _ => replay_on_sheet::ask_sheet(call, body, t, &mut *text, &mut *out, used),
     }
 }
 
@@ -54,7 +55,7 @@ fn change_neither(
 {
     let sheet = held.sheet;
     let state = held.state;
-    let used = replay_numbers::other_call(
+    let used = other_call(
         call,
         body,
         sheet,
@@ -81,7 +82,7 @@ fn made(
     let what = may_change(call);
     match what {
         Changes::Sheet => replay_rewrites::change_sheet(call, body, held, &mut *out),
-        Changes::State => change_state(call, body, held, &mut *store, &mut *out),
+        Changes::State => replay_runs::change_state(call, body, held, &mut *store, &mut *out),
         Changes::Neither => change_neither(call, body, held, &mut *store, &mut *text, &mut *out),
     }
 }

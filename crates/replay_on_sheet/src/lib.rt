@@ -108,10 +108,9 @@ pub fn ask_sheet(
 {
     match call {
         1 => call_bench(body, &mut *text, &mut *out, used),
-        3 => replay_bytes::call_write(body, t, &mut *out, used),
+        3 | 20 => replay_forms::call_lent(call, body, t, &mut *out, used),
         4 => call_calm(body, t, &mut *out, used),
         5 => call_worst(body, t, &mut *out, used),
-        20 => replay_text::call_print_text(body, t, &mut *out, used),
         _ => put_bad(&mut *out, used),
     }
 }

@@ -1,7 +1,7 @@
 // Text for standard output. It waits in a lent buffer, `used` bytes of it, and is written when that is full.
 use run_store::Item;
 use sheet::Answer;
-ghost use Prim.Native.Nat.{_<_};
+ghost use Prim.Native.Nat.{_*_, _+_, _<_};
 ghost use lib.ListN.{length};
 
 // Puts one byte behind those that wait.
@@ -113,6 +113,35 @@ fn glyph(d: u8) -> u8
 
 // The bytes of s in lower-case hex.
 pub fn put_hex(out: &mut [u8], used: usize, s: &[u8]) -> usize
+    requires { ⌜ used < length (now out) ⌝ }
+    ensures { λ r. ⌜ r < length (now (out .exit)) ⌝ }
+{
+    let room = out.len() - used;
+    if s.len() < room / 2 {
+        return hex_into(&mut *out, used, s);
+    }
+    hex_by_byte(&mut *out, used, s)
+}
+
+// Stores straight into the buffer, which has room for all of it: no test for a full buffer at each digit.
+fn hex_into(out: &mut [u8], used: usize, s: &[u8]) -> usize
+    requires { ⌜ used + 2 * length (now s) < length (now out) ⌝ }
+    ensures { λ r. ⌜ r < length (now (out .exit)) ⌝ }
+{
+    let mut at = used;
+    let mut i = 0;
+    while i < s.len() {
+        let b = s[i];
+        out[at] = glyph(b / 16);
+        out[at + 1] = glyph(b % 16);
+        at += 2;
+        i += 1;
+    }
+    at
+}
+
+// Through put_byte, which writes the buffer whenever it is full.
+fn hex_by_byte(out: &mut [u8], used: usize, s: &[u8]) -> usize
     requires { ⌜ used < length (now out) ⌝ }
     ensures { λ r. ⌜ r < length (now (out .exit)) ⌝ }
 {

@@ -1,5 +1,5 @@
 // The calls that change the sheet: the rewritings, 6 to 8, made and printed as the other calls on a sheet, and the two that read one, 2 and 19.
-use replay_bytes::Sheeted;
+use replay_forms::Sheeted;
 use replay_held::Holding;
 use rewrite_rules::Rewritten;
 use sheet::Sheet;
@@ -20,7 +20,7 @@ fn done_sheet(r: Rewritten, old: Sheet, out: &mut [u8], used: usize) -> Sheeted
 {
     let a = r.answer;
     let new = r.sheet;
-    replay_bytes::changed(a, new, old, b"done", &mut *out, used)
+    replay_forms::changed(a, new, old, b"done", &mut *out, used)
 }
 
 // 6
@@ -65,11 +65,11 @@ fn sheet_call(call: u8, body: &[u8], t: Sheet, out: &mut [u8], used: usize) -> S
     ensures { λ r. ⌜ r .used < length (now (out .exit)) ⌝ }
 {
     match call {
-        2 => replay_bytes::call_read(body, t, &mut *out, used),
+        2 => replay_forms::call_read(body, t, &mut *out, used),
         6 => call_fuse(body, t, &mut *out, used),
         7 => call_split(body, t, &mut *out, used),
         8 => call_reorder(body, t, &mut *out, used),
-        _ => replay_text::call_read_text(body, t, &mut *out, used),
+        _ => replay_forms::call_read_text(body, t, &mut *out, used),
     }
 }
 

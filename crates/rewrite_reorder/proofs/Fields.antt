@@ -11,7 +11,7 @@ use Rattle.base_lists.proofs.Tests.{all-and, all-append, all-chain, member-appe
 use Rattle.sheet_step.specs.Step.{rowOf}
 use Rattle.sheet_step.specs.declared.Row.{Row}
 use Rattle.sheet_step.specs.declared.Step.{Step}
-use Rattle.sheet_judge.proofs.Loops.{first-fails, second-decides}
+use Rattle.sheet_operator.proofs.InTurn.{first-fails, second-decides}
 use Rattle.rewrite_rules.specs.Rewrite.{masked, fieldsRead, fieldsWritten, leaves}
 use Rattle.rewrite_reorder.specs.Working.{touched, stepLeaves}
 

@@ -1,4 +1,4 @@
--- Laws of the call that asks for the reader of a queue, on an accepted sheet: the table of readers answers it for any number, and the call's place is the reader's.
+-- Laws of the call that asks which operator reads a queue, on an accepted sheet: the table of readers answers it for any number.
 -- Assumes nothing.
 use mathlib.Core.Path.{_≡_, ap, _∙_}
 use mathlib.Core.Logic.{⊎-elim}

@@ -3,6 +3,7 @@ use sheet_operator::Kind;
 use sheet_operator::Operator;
 use sheet_step::Step;
 ghost use mathlib.Core.Path.{_≡_};
+ghost use mathlib.Core.List.{_∷_};
 ghost use Prim.Native.Nat.{_+_, _*_, _≤_};
 ghost use lib.ListN.{length};
 ghost use lib.Seq.{sets};
@@ -102,25 +103,20 @@ fn put_double(s: &mut [u8], at: usize, o: Operator)
     s[at + 2] = o.outs[1];
 }
 
-fn put_deal(s: &mut [u8], at: usize, o: Operator)
-    requires { ⌜ (o .kind ≡ Kind.Deal) × (o .count ≤ PLACES) × (at + length (bodyBytes (view o)) ≤ length (now s)) ⌝ }
-    ensures { λ _. ⌜ now (s .exit) ≡ sets (now (s .entry)) at (bodyBytes (view o)) ⌝ }
+// The body of a deal or a gather: the cursor, the queue on its one side, and the ways on the other.
+fn put_branches(
+    s: &mut [u8],
+    at: usize,
+    cursor: u8,
+    one: u8,
+    queues: [u8; sheet_operator::PLACES],
+    n: usize,
+)
+    requires { ⌜ (n ≤ PLACES) × (at + (2 + n) ≤ length (now s)) ⌝ }
+    ensures { λ _. ⌜ now (s .exit) ≡ sets (now (s .entry)) at (cursor ∷ one ∷ ways n queues) ⌝ }
 {
-    let n = o.count as usize;
-    let queues = o.outs;
-    s[at] = o.variable;
-    s[at + 1] = o.ins[0];
-    put_ways(s, at + 2, queues, n);
-}
-
-fn put_gather(s: &mut [u8], at: usize, o: Operator)
-    requires { ⌜ (o .kind ≡ Kind.Gather) × (o .count ≤ PLACES) × (at + length (bodyBytes (view o)) ≤ length (now s)) ⌝ }
-    ensures { λ _. ⌜ now (s .exit) ≡ sets (now (s .entry)) at (bodyBytes (view o)) ⌝ }
-{
-    let n = o.count as usize;
-    let queues = o.ins;
-    s[at] = o.variable;
-    s[at + 1] = o.outs[0];
+    s[at] = cursor;
+    s[at + 1] = one;
     put_ways(s, at + 2, queues, n);
 }
 
@@ -129,13 +125,16 @@ fn put_body(s: &mut [u8], at: usize, o: Operator)
     ensures { λ _. ⌜ now (s .exit) ≡ sets (now (s .entry)) at (bodyBytes (view o)) ⌝ }
 {
     let k = o.kind;
+    let n = o.count as usize;
+    let ins = o.ins;
+    let outs = o.outs;
     match k {
         Kind::Empty => {}
         Kind::Line => put_line(s, at, o),
         Kind::Latest => put_latest(s, at, o),
         Kind::Double => put_double(s, at, o),
-        Kind::Deal => put_deal(s, at, o),
-        Kind::Gather => put_gather(s, at, o),
+        Kind::Deal => put_branches(s, at, o.variable, ins[0], outs, n),
+        Kind::Gather => put_branches(s, at, o.variable, outs[0], ins, n),
     }
 }
 

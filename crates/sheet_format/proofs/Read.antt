@@ -17,12 +17,13 @@ use Rattle.base_lists.proofs.Tests.{both}
 use Rattle.sheet_step.specs.Step.{STEP_BYTES, noStep, stepOf, stepBytes}
 use Rattle.sheet_step.specs.declared.Step.{Step}
 use Rattle.sheet_operator.specs.Op.{Op}
-use Rattle.sheet_operator.specs.Memory.{PLACES, isEmpty}
+use Rattle.sheet_operator.specs.Memory.{PLACES, isEmpty, viewAs, Held}
 use Rattle.sheet_operator.specs.declared.Kind.{Kind}
 use Rattle.sheet_operator.specs.declared.Kind.the-variants.{Empty, Line, Latest, Double, Deal, Gather}
+use Rattle.sheet_operator.specs.declared.Operator.{Operator}
 use Rattle.sheet_operator.proofs.ViewLaws.{Small}
 use Rattle.sheet_format.specs.Record.{HEADER, kindOf, kindCode, kindIn, bodyBytes, opBytes, cut, bodyGood, waysOf, opOf, bad, took, taken}
-use Rattle.sheet_format.proofs.Sizes.{FitsStep, FitsSteps, knownSteps, knownOp}
+use Rattle.sheet_format.proofs.Sizes.{FitsStep, FitsSteps, FitsOp, knownSteps, knownOp}
 use Rattle.sheet_format.proofs.Codes.{code-of-kind}
 use Rattle.sheet_format.proofs.Steps.{bytes-of-steps}
 use Rattle.sheet_format.proofs.Fronts.{room-of-cut, drop-below, front-back}
@@ -105,11 +106,20 @@ small-body Gather n b h = small-ways n (λ (k : ℕ). getD b (2 + k) 0) (ways-le
 no-step-fits : FitsStep noStep
 no-step-fits = record { low = record { sfits = lit< tt }; high = record { sfits = lit< tt } }
 
-pub steps-fit : (n : ℕ) (g : ℕ → Step) → ((k : ℕ) → FitsStep (g k)) → FitsSteps (build n g)
+steps-fit : (n : ℕ) (g : ℕ → Step) → ((k : ℕ) → FitsStep (g k)) → FitsSteps (build n g)
 steps-fit n g h k =
     ⊎-elim (λ (l : k < n). rw (build-getD n g noStep k l) (h k))
     (λ (l : n ≤ k). rw (List·getD-eq-default (build n g) noStep {n = k} (rw (build-length n g) l)) no-step-fits)
     (order k n)
+
+-- an operator that the program holds has numbers that fit
+pub fits-as : (k : Kind) (o : Operator) → Held o → FitsOp (viewAs k o)
+fits-as Empty o h = tt
+fits-as Line o h = steps-fit (o .count) (λ (k : ℕ). getD (o .steps) k noStep) (λ k. record { low = h .step-lows k; high = h .step-highs k })
+fits-as Latest o h = tt
+fits-as Double o h = tt
+fits-as Deal o h = tt
+fits-as Gather o h = tt
 
 -- and that its bytes are those of the operator
 two-and : (b : List ℕ) (n m : ℕ) → n ≡ 2 + m → n ≤ length b → getD b 0 0 ∷ getD b 1 0 ∷ take m (drop 2 b) ≡ take n b

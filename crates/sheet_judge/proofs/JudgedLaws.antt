@@ -17,7 +17,8 @@ use Rattle.sheet_operator.specs.declared.Operator.{Operator}
 use Rattle.sheet_operator.specs.Op.{Op, line, latest, double, deal, gather, reads, defines, names}
 use Rattle.sheet_operator.specs.Memory.{view}
 use Rattle.sheet_judge.specs.Judge.{Known, four, five, variablesGood, six, seven, judgeBy}
-use Rattle.sheet_judge.specs.Seen.{FLAGS, Flagged}
+use Rattle.sheet_sets.specs.Sets.{FLAGS}
+use Rattle.sheet_judge.specs.Seen.{Flagged}
 
 -- 0 only past every test
 all-passed : (a b c d : Bool) → _≡_ {A = ℕ} (cond a (cond b (cond c (cond d 0 7) 6) 5) 4) 0 → (a ≡ true) × (b ≡ true) × (c ≡ true) × (d ≡ true)

@@ -1,4 +1,3 @@
-pub mod Loops
 pub mod KnownLaws
 pub mod Shapes
 pub mod JudgedLaws

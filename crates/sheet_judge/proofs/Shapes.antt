@@ -1,21 +1,13 @@
--- An operator in memory by its kind, and what its shape says of the queues that it reads and defines.
+-- What the shape of an operator in memory says of the queues that it reads and defines.
 -- Assumes nothing.
 use mathlib.Core.Path.{_≡_, ap, _∙_, sym}
-use mathlib.Core.Bool.{Bool, _||_}
 use mathlib.Core.List.{List}
 use Prim.Native.Nat.{ℕ, _≤_}
-use Rattle.base_lists.specs.Lists.{member, has}
-use Rattle.sheet_operator.specs.declared.Kind.{Kind}
 use Rattle.sheet_operator.specs.declared.Operator.{Operator}
 use Rattle.sheet_operator.specs.declared.Shape.{Shape}
-use Rattle.sheet_operator.specs.Op.{Op, reads, defines}
-use Rattle.sheet_operator.specs.Memory.{PLACES, shapeOf, ways, viewAs, view, Ready}
-use Rattle.sheet_operator.proofs.ViewLaws.{reads-view, defines-view, shape-small, by-kind}
-
--- and what a set has with the numbers of a kind's operator
-pub set-by : (f : Op → List ℕ) (o : Operator) (k : Kind) (s r : List Bool) → o .kind ≡ k →
-    has r ≡ (λ (j : ℕ). member j (f (viewAs k o)) || has s j) → has r ≡ (λ (j : ℕ). member j (f (view o)) || has s j)
-set-by f o k s r e h = h ∙ by-kind (λ (x : Op) (j : ℕ). member j (f x) || has s j) o k e
+use Rattle.sheet_operator.specs.Op.{reads, defines}
+use Rattle.sheet_operator.specs.Memory.{PLACES, shapeOf, ways, view, Ready}
+use Rattle.sheet_operator.proofs.ViewLaws.{reads-view, defines-view, shape-small}
 
 -- what the laws of the view say, of a shape that a call answered
 module _ (o : Operator) (s : Shape) (r : Ready o) (e : s ≡ shapeOf (o .kind) (o .count)) where

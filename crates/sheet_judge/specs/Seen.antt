@@ -7,12 +7,10 @@ use Rattle.base_lists.specs.Lists.{all, has}
 use Rattle.sheet_operator.specs.Op.{reads, defines}
 use Rattle.sheet_operator.specs.Memory.{view}
 use Rattle.sheet_operator.specs.declared.Operator.{Operator}
+use Rattle.sheet_sets.specs.Sets.{FLAGS}
 use Rattle.sheet_judge.specs.declared.Admitted.{Admitted}
 use Rattle.sheet_judge.specs.declared.Seen.{Seen}
 use Rattle.sheet_judge.specs.Judge.{Known, judgeBy, after}
-
-abbrev pub FLAGS : ℕ
-FLAGS = 32
 
 abbrev pub knownBy : Seen → Known
 knownBy s = record { defined = has (s .defined); used = has (s .used); named = has (s .named); cursor = has (s .cursor) }

@@ -3,20 +3,18 @@ mod steps;
 
 use sheet_operator::Kind;
 use sheet_operator::Operator;
+use sheet_sets::FLAGS;
 ghost use mathlib.Core.Path.{_≡_};
-ghost use mathlib.Core.Bool.{true, not, _&&_, _||_};
+ghost use mathlib.Core.Bool.{true, _&&_};
 ghost use mathlib.Core.List.{[]};
 ghost use Prim.Native.Nat.{_≤_};
-ghost use lib.ListN.{set};
 ghost use lib.Dec.{ltb};
-ghost use Rattle.base_lists.specs.Lists.{all, member, fresh, has};
-ghost use Rattle.sheet_operator.specs.Op.{names, cursors};
+ghost use Rattle.base_lists.specs.Lists.{all, has};
+ghost use Rattle.sheet_operator.specs.Op.{names};
 ghost use Rattle.sheet_operator.specs.Memory.{PLACES, ways, view, Ready};
+ghost use Rattle.sheet_sets.specs.Sets.{FLAGS};
 ghost use Rattle.sheet_judge.specs.Judge.{four, five, variablesGood, six, seven, judgeBy, knownOf, after, whole};
-ghost use Rattle.sheet_judge.specs.Seen.{FLAGS, knownBy, Flagged, Admits};
-
-// A set of queue or variable numbers has a flag for each number below this.
-pub const FLAGS: usize = 32;
+ghost use Rattle.sheet_judge.specs.Seen.{knownBy, Flagged, Admits};
 
 // What the operators kept so far define, read and name, and which of the variables are cursors.
 pub struct Seen {
@@ -32,48 +30,12 @@ pub struct Admitted {
     pub seen: Seen,
 }
 
-pub fn flag(s: [bool; FLAGS], k: u8) -> bool
-    ensures { λ r. ⌜ r ≡ has s k ⌝ }
-{
-    let i = k as usize;
-    if i < FLAGS {
-        return s[i];
-    }
-    false
-}
-
-pub fn flagged(s: [bool; FLAGS], k: u8) -> [bool; FLAGS]
-    ensures { λ r. ⌜ r ≡ set s k true ⌝ }
-{
-    let mut r = s;
-    let i = k as usize;
-    if i < FLAGS {
-        r[i] = true;
-        return r;
-    }
-    r
-}
-
-fn all_flagged(s: [bool; FLAGS], qs: [u8; sheet_operator::PLACES], n: usize) -> [bool; FLAGS]
-    requires { ⌜ (n ≤ PLACES) × (all (λ q. ltb q FLAGS) (ways n qs) ≡ true) ⌝ }
-    ensures { λ r. ⌜ has r ≡ (λ k. member k (ways n qs) || has s k) ⌝ }
-{
-    let mut r = s;
-    let mut j = 0;
-    while j < n {
-        let q = qs[j] as usize;
-        r[q] = true;
-        j += 1;
-    }
-    r
-}
-
 // The in queue is below Q and defined.
 fn in_good(p: u8, queues: u8, defined: [bool; FLAGS]) -> bool
     ensures { λ r. ⌜ r ≡ (ltb p queues && has defined p) ⌝ }
 {
     if p < queues {
-        return flag(defined, p);
+        return sheet_sets::flag(defined, p);
     }
     false
 }
@@ -108,24 +70,6 @@ fn outs_good(qs: [u8; sheet_operator::PLACES], n: usize, queues: u8) -> bool
     true
 }
 
-// None of the queues is in the set, and none stands there twice.
-fn is_fresh(s: [bool; FLAGS], qs: [u8; sheet_operator::PLACES], n: usize) -> bool
-    requires { ⌜ (n ≤ PLACES) × (all (λ q. ltb q FLAGS) (ways n qs) ≡ true) ⌝ }
-    ensures { λ r. ⌜ r ≡ fresh (has s) (ways n qs) ⌝ }
-{
-    let mut t = s;
-    let mut j = 0;
-    while j < n {
-        let q = qs[j] as usize;
-        if t[q] {
-            return false;
-        }
-        t[q] = true;
-        j += 1;
-    }
-    true
-}
-
 // The functions below take an operator whose count is in range and that is not empty: what `memory_number` answers 0 to is such a one.
 
 // Variables below V, and none given where none is taken.
@@ -143,73 +87,6 @@ fn variables_good(o: Operator, variables: u8) -> bool
         Kind::Double => true,
         Kind::Deal => o.variable < variables,
         Kind::Gather => o.variable < variables,
-    }
-}
-
-// No variable that the operator names is in the set.
-pub fn names_apart(s: [bool; FLAGS], o: Operator) -> bool
-    requires { ⌜ Ready o ⌝ }
-    ensures { λ r. ⌜ r ≡ all (λ v. not (has s v)) (names (view o)) ⌝ }
-{
-    let k = o.kind;
-    let n = o.count as usize;
-    let steps = o.steps;
-    match k {
-        Kind::Empty => true,
-        Kind::Line => steps::steps_apart(s, steps, n),
-        Kind::Latest => !flag(s, o.variable),
-        Kind::Double => true,
-        Kind::Deal => !flag(s, o.variable),
-        Kind::Gather => !flag(s, o.variable),
-    }
-}
-
-// The set and the variables that the operator names.
-pub fn names_flagged(s: [bool; FLAGS], o: Operator) -> [bool; FLAGS]
-    requires { ⌜ Ready o × (all (λ v. ltb v FLAGS) (names (view o)) ≡ true) ⌝ }
-    ensures { λ r. ⌜ has r ≡ (λ k. member k (names (view o)) || has s k) ⌝ }
-{
-    let k = o.kind;
-    let n = o.count as usize;
-    let steps = o.steps;
-    match k {
-        Kind::Empty => s,
-        Kind::Line => steps::steps_flagged(s, steps, n),
-        Kind::Latest => flagged(s, o.variable),
-        Kind::Double => s,
-        Kind::Deal => flagged(s, o.variable),
-        Kind::Gather => flagged(s, o.variable),
-    }
-}
-
-// The operator's cursor, if it has one, is not in the set.
-fn cursor_apart(s: [bool; FLAGS], o: Operator) -> bool
-    requires { ⌜ Ready o ⌝ }
-    ensures { λ r. ⌜ r ≡ all (λ v. not (has s v)) (cursors (view o)) ⌝ }
-{
-    let k = o.kind;
-    match k {
-        Kind::Empty => true,
-        Kind::Line => true,
-        Kind::Latest => true,
-        Kind::Double => true,
-        Kind::Deal => !flag(s, o.variable),
-        Kind::Gather => !flag(s, o.variable),
-    }
-}
-
-fn cursor_flagged(s: [bool; FLAGS], o: Operator) -> [bool; FLAGS]
-    requires { ⌜ Ready o × (all (λ v. ltb v FLAGS) (names (view o)) ≡ true) ⌝ }
-    ensures { λ r. ⌜ has r ≡ (λ k. member k (cursors (view o)) || has s k) ⌝ }
-{
-    let k = o.kind;
-    match k {
-        Kind::Empty => s,
-        Kind::Line => s,
-        Kind::Latest => s,
-        Kind::Double => s,
-        Kind::Deal => flagged(s, o.variable),
-        Kind::Gather => flagged(s, o.variable),
     }
 }
 
@@ -238,12 +115,12 @@ fn queues_fresh(seen: Seen, o: Operator) -> bool
     let s = sheet_operator::shape_of(k, o.count);
     let outs = o.outs;
     let defined = seen.defined;
-    if !is_fresh(defined, outs, s.outs as usize) {
+    if !sheet_sets::is_fresh(defined, outs, s.outs as usize) {
         return false;
     }
     let ins = o.ins;
     let used = seen.used;
-    is_fresh(used, ins, s.ins as usize)
+    sheet_sets::is_fresh(used, ins, s.ins as usize)
 }
 
 // 6
@@ -255,11 +132,11 @@ fn variables_apart(variables: u8, seen: Seen, o: Operator) -> bool
         return false;
     }
     let cursor = seen.cursor;
-    if !names_apart(cursor, o) {
+    if !sheet_sets::names_apart(cursor, o) {
         return false;
     }
     let named = seen.named;
-    cursor_apart(named, o)
+    sheet_sets::cursor_apart(named, o)
 }
 
 // 7
@@ -306,14 +183,14 @@ fn kept(seen: Seen, o: Operator) -> Seen
     let s = sheet_operator::shape_of(k, o.count);
     let outs = o.outs;
     let before = seen.defined;
-    let defined = all_flagged(before, outs, s.outs as usize);
+    let defined = sheet_sets::all_flagged(before, outs, s.outs as usize);
     let ins = o.ins;
     let read = seen.used;
-    let used = all_flagged(read, ins, s.ins as usize);
+    let used = sheet_sets::all_flagged(read, ins, s.ins as usize);
     let names = seen.named;
-    let named = names_flagged(names, o);
+    let named = sheet_sets::names_flagged(names, o);
     let cursors = seen.cursor;
-    let cursor = cursor_flagged(cursors, o);
+    let cursor = sheet_sets::cursor_flagged(cursors, o);
     Seen {
         defined,
         used,
@@ -345,7 +222,7 @@ pub fn all_defined(seen: Seen, queues: u8) -> bool
     let defined = seen.defined;
     let mut q = 0;
     while q < queues {
-        if !flag(defined, q) {
+        if !sheet_sets::flag(defined, q) {
             return false;
         }
         q += 1;

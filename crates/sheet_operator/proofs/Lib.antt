@@ -1,2 +1,4 @@
 pub mod ViewLaws
 pub mod Held
+pub mod InTurn
+pub mod Vacant

@@ -192,5 +192,23 @@ pub fn is_vacant(o: Operator) -> bool
     if !is_empty(k) {
         return false;
     }
-    is_tidy(o)
+    if o.count != 0 {
+        return false;
+    }
+    let ins = o.ins;
+    if !zeros_from(0, ins) {
+        return false;
+    }
+    let outs = o.outs;
+    if !zeros_from(0, outs) {
+        return false;
+    }
+    let steps = o.steps;
+    if !blanks_from(0, steps) {
+        return false;
+    }
+    if o.variable != 0 {
+        return false;
+    }
+    o.field == 0
 }

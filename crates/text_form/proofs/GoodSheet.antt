@@ -7,7 +7,7 @@ use Prim.Native.Nat.{ℕ, zero, suc, _<_, _≤_}
 use native.Mathlib.Omega.{arith}
 use lib.Dec.{eqb, ltb, leb}
 use lib.IntN.{ℤ}
-use lib.ListN.{length, getD}
+use lib.ListN.{length}
 use borrow.Author.Tests.{ltb-true, eqb-true, le-leb}
 use Rattle.base_number.proofs.Zero.{zero-of-test}
 use Rattle.base_lists.specs.Lists.{build, all}
@@ -17,17 +17,14 @@ use Rattle.base_bounds.specs.Bounds.{FIELDS}
 use Rattle.sheet_step.specs.declared.Func.{Func}
 use Rattle.sheet_step.specs.declared.Func.the-variants.{None, Keep, Add, Copy, Count, Stamp}
 use Rattle.sheet_step.specs.declared.Step.{Step}
-use Rattle.sheet_step.specs.Step.{NO_VARIABLE, rowOf, knownFunc, noStep, stepVariable, unusedZ, fieldPlace, stepPlaces}
+use Rattle.sheet_step.specs.Step.{NO_VARIABLE, rowOf, knownFunc, stepVariable, unusedZ, fieldPlace, stepPlaces}
 use Rattle.sheet_operator.specs.Op.{Op, line, latest, double, deal, gather, Abstract, reads, defines}
-use Rattle.sheet_operator.specs.Memory.{view, viewAs, Held}
-use Rattle.sheet_operator.specs.declared.Kind.{Kind}
-use Rattle.sheet_operator.specs.declared.Kind.the-variants.{Empty, Line, Latest, Double, Deal, Gather}
-use Rattle.sheet_operator.specs.declared.Operator.{Operator}
+use Rattle.sheet_operator.specs.Memory.{view}
 use Rattle.sheet_operator.proofs.ViewLaws.{Small, small-view}
 use Rattle.sheet_judge.specs.Judge.{Known, known, six, seven, variablesGood}
 use Rattle.sheet_judge.proofs.JudgedLaws.{judged-four, judged-six, judged-seven, four-reads, four-defines}
 use Rattle.sheet_format.proofs.Sizes.{FitsStep, FitsSteps, FitsOp}
-use Rattle.sheet_format.proofs.Read.{steps-fit}
+use Rattle.sheet_format.proofs.Read.{fits-as}
 use Rattle.sheet.specs.declared.Sheet.{Sheet}
 use Rattle.sheet.specs.Answer.{accepted}
 use Rattle.sheet.specs.Sheet.{opAt, viewTo, viewSheet, HeldSheet}
@@ -149,15 +146,6 @@ good-op Q vs (gather c q (a ∷ b ∷ ps)) j =
 good-ops : (n : ℕ) (f : ℕ → Op) → ((k : ℕ) → k < n → GoodOp (f k)) → GoodOps (build n f)
 good-ops zero f h = no-ops
 good-ops (suc n) f h = one-op (h 0 (omega arith)) (good-ops n (λ (k : ℕ). f (suc k)) (λ k l. h (suc k) (omega arith)))
-
--- an operator that the program holds has numbers that fit
-fits-as : (k : Kind) (o : Operator) → Held o → FitsOp (viewAs k o)
-fits-as Empty o h = tt
-fits-as Line o h = steps-fit (o .count) (λ (k : ℕ). getD (o .steps) k noStep) (λ k. record { low = h .step-lows k; high = h .step-highs k })
-fits-as Latest o h = tt
-fits-as Double o h = tt
-fits-as Deal o h = tt
-fits-as Gather o h = tt
 
 -- ---- the lists
 

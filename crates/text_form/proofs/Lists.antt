@@ -20,7 +20,7 @@ use Rattle.text_grammar.specs.Readers.{Tree, names}
 use Rattle.text_grammar.specs.Tokens.{must, Token, Starts, Spells, more, at-once, spaced, byteAs, opTokens, namesTokens, textTokens, TextOf}
 use Rattle.text_grammar.specs.Tokens as tokens
 use Rattle.text_grammar.proofs.CompleteText.{runs-names}
-use Rattle.text_grammar.proofs.Complete.{Runs, runs-done, runs-sign, runs-word, runs-same, runs-sub, spells-split, all-blank}
+use Rattle.text_grammar.proofs.CompleteOperators.{Runs, runs-done, runs-sign, runs-word, runs-same, runs-sub, spells-split, all-blank}
 use Rattle.text_form.specs.Form.{outputsOf, inputsOf, treeOf, sheetOf}
 use Rattle.text_grammar.specs.Begins.{leftBy, outputWord, inputWord, fromOutputs, fromInputs}
 use Rattle.text_form.specs.Reading.{TextPaper, outside, spotted, byteOf, sameList, listsAnswer, treeAnswer, readTextOf}

@@ -23,7 +23,8 @@ use Rattle.text_scan.proofs.Binding.{same-bind}
 use Rattle.text_grammar.specs.Readers.{decimal, steps, operator, nameTurn, snoc, names, head, item, text, Tree, withOp}
 use Rattle.text_grammar.specs.Tokens.{tight, must, Token, mayStand, Spells, none, more, at-once, spaced, queueAs, byteAs, stepTokens, stepsTokens, opTokens, restTokens, namesTokens, textTokens, GoodStep, GoodSteps, one-step, GoodOp, good-line, good-latest, good-double, good-deal, good-gather, GoodOps, one-op, TextOf, queues}
 use Rattle.text_grammar.proofs.ExactText.{names-turn, exact-item, no-item}
-use Rattle.text_grammar.proofs.Complete.{Runs, runs-done, runs-sign, runs-word, runs-decimal, runs-queue, runs-byte, runs-arrow, runs-same, runs-sub, runs-as, runs-step, runs-latest, runs-double, runs-deal, runs-gather, token-reads, sign-first, spells-split}
+use Rattle.text_grammar.proofs.CompleteOperators.{Runs, runs-done, runs-sign, runs-word, runs-decimal, runs-queue, runs-byte, runs-arrow, runs-same, runs-sub, runs-as, runs-latest, runs-double, runs-deal, runs-gather, token-reads, sign-first, spells-split}
+use Rattle.text_grammar.proofs.CompleteSteps.{runs-step}
 
 -- ---- lines
 

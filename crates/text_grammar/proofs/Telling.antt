@@ -20,9 +20,9 @@ use Rattle.text_scan.proofs.Places.{sign-after}
 use Rattle.text_scan.proofs.Exact.{either}
 use Rattle.text_scan.proofs.Sound.{between, here-was, at-most, digits-small}
 use Rattle.text_scan.proofs.Binding.{same-bind}
-use Rattle.text_grammar.specs.Readers.{decimal, byte, queue, variable, operator, arrow, number, negative}
+use Rattle.text_grammar.specs.Readers.{decimal, byte, queue, variable, arrow, number, negative}
 use Rattle.text_grammar.specs.Tokens.{Gap, tight, loose, Token, mayStand, Starts, Spells, none, more, Wide}
-use Rattle.text_grammar.proofs.Complete.{bitsOf, minus}
+use Rattle.text_grammar.proofs.CompleteSteps.{bitsOf, minus}
 
 -- ---- tokens so far, and the bytes w of the next one
 

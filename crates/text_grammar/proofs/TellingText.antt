@@ -21,7 +21,7 @@ use Rattle.text_scan.proofs.Sound.{between}
 use Rattle.text_scan.proofs.Binding.{same-bind}
 use Rattle.text_grammar.specs.Readers.{variable-is, step, steps, lineTo, latestTo, doubleTo, gatherTo, ways, dealFrom, gatherFrom, operator}
 use Rattle.text_grammar.specs.Tokens.{tight, loose, Token, Spells, none, at-once, spaced, queueAs, variableAs, stepTokens, stepsTokens, wayTokens, opTokens, Wide, GoodStep, good-keep, good-add, good-copy, good-count, good-stamp, GoodSteps, no-steps, one-step, stepWith, GoodOp, good-line, good-latest, good-double, good-deal, good-gather, queues}
-use Rattle.text_grammar.proofs.Complete.{bitsOf, bits-back}
+use Rattle.text_grammar.proofs.CompleteSteps.{bitsOf, bits-back}
 use Rattle.text_grammar.proofs.Telling.{spells-then, Tells, Inside, tells-done, tells-sign, inside-here, inside-tight, inside-loose, inside-decimal, inside-spell, inside-same, tells-queue, inside-variable, tells-arrow, tells-byte, tells-number}
 
 -- ---- steps

@@ -67,7 +67,7 @@ fn turn(s: &[u8], c: Cursor, n: KeptNames) -> TurnFound
     requires { ⌜ c .at ≤ length (now s) ⌝ }
     ensures { λ r. ⌜ GoesTurn (now (s .entry)) c (λ _. nameTurn noted n) r ⌝ }
 {
-    let q = text_names::decimal(s, c, 23);
+    let q = text_names::decimal(s, c, text_names::LAST_QUEUE);
     let b = text_scan::sign(s, q, b",;");
     let names = with_name(n, q.value as u8);
     if b.value == SEMICOLON {

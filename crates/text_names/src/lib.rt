@@ -9,6 +9,9 @@ ghost use Rattle.text_scan.specs.Cursor.{Goes};
 ghost use Rattle.text_grammar.specs.Readers.{decimal, byte, negative, number, queue, variable, variable-is, arrow};
 ghost use Rattle.text_names.specs.Named.{Named, Settles};
 
+// The highest number of a queue.
+pub const LAST_QUEUE: u32 = base_bounds::QUEUES as u32 - 1;
+
 const MINUS: u32 = b'-' as u32;
 
 // A lost cursor with the value 0.
@@ -30,7 +33,7 @@ pub fn decimal(s: &[u8], c: Cursor, top: u32) -> Cursor
     requires { ⌜ (c .at ≤ length (now s)) × (9 ≤ top) ⌝ }
     ensures { λ r. ⌜ Named top (now (s .entry)) c (λ _. decimal top) r ⌝ }
 {
-    let d = text_scan::digit_here(s, c);
+    let d = text_scan::here(s, c, b"0123456789");
     let e = text_scan::digits(s, d, top);
     settled(e)
 }
@@ -39,7 +42,7 @@ pub fn byte(s: &[u8], c: Cursor) -> Cursor
     requires { ⌜ c .at ≤ length (now s) ⌝ }
     ensures { λ r. ⌜ Named 255 (now (s .entry)) c (λ _. byte) r ⌝ }
 {
-    let d = text_scan::digit_sign(s, c);
+    let d = text_scan::sign(s, c, b"0123456789");
     let e = text_scan::digits(s, d, 255);
     settled(e)
 }
@@ -49,7 +52,7 @@ pub fn queue(s: &[u8], c: Cursor) -> Cursor
     ensures { λ r. ⌜ Named 23 (now (s .entry)) c (λ _. queue) r ⌝ }
 {
     let d = text_scan::mark(s, c, b'q');
-    decimal(s, d, 23)
+    decimal(s, d, LAST_QUEUE)
 }
 
 // A variable, once its `$` is read.

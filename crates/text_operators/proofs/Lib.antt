@@ -1,2 +1,1 @@
-pub mod OperatorLaws
-pub mod WayLaws
+pub mod LineLaws

@@ -14,7 +14,7 @@ use Rattle.base_lists.proofs.Build.{build-snoc}
 use Rattle.base_lists.proofs.Chains.{chain-snoc}
 use Rattle.base_lists.proofs.Tests.{all-more, all-stop}
 use Rattle.sheet_operator.specs.Op.{Abstract}
-use Rattle.sheet_judge.proofs.Loops.{all-end}
+use Rattle.sheet_operator.proofs.InTurn.{all-end}
 use Rattle.sheet.specs.declared.Sheet.{Sheet}
 use Rattle.sheet.specs.Answer.{accepted}
 use Rattle.sheet.specs.Sheet.{viewSheet}

@@ -6,7 +6,7 @@ use Rattle.sheet_operator.specs.Op.{Op, Abstract}
 use Rattle.text_grammar.specs.Tokens.{Token, loose, must, printed, at-once, spaced, queueAs, byteAs, namesTokens, opTokens}
 use Rattle.text_form.specs.Form.{outputsOf, inputsOf}
 use Rattle.text_parts.specs.Put.{listed}
-use Rattle.text_put.specs.Put.{OPERATOR_TEXT}
+use Rattle.text_put_ways.specs.Put.{OPERATOR_TEXT}
 
 -- a name, by whether it is the list's first
 abbrev pub nameTokens : Bool → ℕ → List Token

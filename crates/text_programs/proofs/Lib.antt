@@ -1,4 +1,3 @@
-pub mod Places
 pub mod Sending
 pub mod Programs
 pub mod OneOutcome

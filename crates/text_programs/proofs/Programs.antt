@@ -6,8 +6,9 @@ use mathlib.Core.List.{List}
 use mathlib.Core.Option.{some, none}
 use Prim.Native.Nat.{ℕ, _<_, _≤_}
 use native.Mathlib.Omega.{arith}
-use lib.ListN.{length, getD}
+use lib.ListN.{length}
 use borrow.Author.Tests.{le-leb, lt-leb}
+use Rattle.base_bounds.specs.Bounds.{INPUT_BYTES}
 use Rattle.bench_lines.specs.Lines.{refusalLine}
 use Rattle.sheet_format.proofs.Heads.{head-good-of-number}
 use Rattle.sheet.specs.declared.Answer.{Answer}
@@ -21,29 +22,30 @@ use Rattle.codec_read.specs.declared.ReadSheet.{ReadSheet}
 use Rattle.codec_read.specs.Read.{Reading, readOf, headIn}
 use Rattle.codec_read.specs.Fronts.{Reads}
 use Rattle.codec_read.proofs.Follow.{withAll}
-use Rattle.codec_read.proofs.Answers.{Accepts, accepts-of-answer}
+use Rattle.codec_read.proofs.Answers.{accepts-of-answer}
 use Rattle.codec_read.proofs.InMemory.{accepted-memory}
 use Rattle.codec_write.specs.Write.{sheetBytes}
-use Rattle.text_form.specs.Reading.{Spot, nowhere, atRecord, atByte, TextPaper, outside, spotted, readTextOf}
+use Rattle.text_form.specs.Reading.{nowhere, atRecord, atByte, TextPaper, spotted, readTextOf}
 use Rattle.text_form.proofs.Refusals.{Answers, accepts, at-byte, at-record, read-refusal-numbers}
 use Rattle.text_form.proofs.RoundTrip.{one-form-of-read}
 use Rattle.text_read.specs.declared.TextAnswer.{TextAnswer}
 use Rattle.text_read.specs.declared.ReadText.{ReadText}
 use Rattle.text_read.specs.Answer.{textPaper}
 use Rattle.text_read.specs.Reads.{ReadsText}
-use Rattle.text_programs.specs.Output.{Output, out, err, INPUT, outsideLine, placeOf, outputOf, limited, textLine, toTextOf, toBytesOf}
+use Rattle.text_places.specs.Places.{placeOf, outsideLine}
+use Rattle.text_programs.specs.Output.{Output, out, err, outputOf, limited, textLine, toTextOf, toBytesOf}
 
 -- ---- the limit
 
-limited-long : (s : List ℕ) (o : Output) → INPUT < length s → limited s o ≡ err (refusalLine 18 0)
-limited-long s o h = ap (λ (b : Bool). cond b o (err (refusalLine 18 0))) (lt-leb (length s) INPUT h)
+limited-long : (s : List ℕ) (o : Output) → INPUT_BYTES < length s → limited s o ≡ err (refusalLine 18 0)
+limited-long s o h = ap (λ (b : Bool). cond b o (err (refusalLine 18 0))) (lt-leb (length s) INPUT_BYTES h)
 
-limited-short : (s : List ℕ) (o : Output) → length s ≤ INPUT → limited s o ≡ o
-limited-short s o h = ap (λ (b : Bool). cond b o (err (refusalLine 18 0))) (le-leb (length s) INPUT h)
+limited-short : (s : List ℕ) (o : Output) → length s ≤ INPUT_BYTES → limited s o ≡ o
+limited-short s o h = ap (λ (b : Bool). cond b o (err (refusalLine 18 0))) (le-leb (length s) INPUT_BYTES h)
 
 -- ---- `to_text`
 
-pub to-text-long : (s : List ℕ) → INPUT < length s → toTextOf s ≡ err (refusalLine 18 0)
+pub to-text-long : (s : List ℕ) → INPUT_BYTES < length s → toTextOf s ≡ err (refusalLine 18 0)
 unfolding toTextOf
 to-text-long s h = limited-long s _ h
 
@@ -61,7 +63,7 @@ module _ (s : List ℕ) (r : ReadSheet) (reads : Reads s r) where
   pub to-text-accepted : r .answer ≡ Done → checkOf (r .sheet) ≡ accepted
   to-text-accepted e = ap checkOf (reads .sheet) ∙ read-accepted s (answered Done e)
 
-  module _ (short : length s ≤ INPUT) where
+  module _ (short : length s ≤ INPUT_BYTES) where
     to-text-of : (a : Answer) → r .answer ≡ a → toTextOf s ≡ outputOf s (spotted (paper a)) (textLine (viewSheet (r .sheet)))
     unfolding toTextOf
     to-text-of a e =
@@ -79,7 +81,7 @@ module _ (s : List ℕ) (r : ReadSheet) (reads : Reads s r) where
 
 -- ---- `to_bytes`
 
-pub to-bytes-long : (s : List ℕ) → INPUT < length s → toBytesOf s ≡ err (refusalLine 18 0)
+pub to-bytes-long : (s : List ℕ) → INPUT_BYTES < length s → toBytesOf s ≡ err (refusalLine 18 0)
 unfolding toBytesOf
 to-bytes-long s h = limited-long s _ h
 
@@ -105,7 +107,7 @@ module _ (s : List ℕ) (r : ReadText) (reads : ReadsText s r) where
   pub to-bytes-within : (at : ℕ) → r .answer ≡ TextAnswer.Outside at → at ≤ length s
   to-bytes-within at e = omega (arith, ap byte-of (told (TextAnswer.Outside at) e), byte-said s (readTextOf s .answer) (read-refusal-numbers s))
 
-  module _ (short : length s ≤ INPUT) where
+  module _ (short : length s ≤ INPUT_BYTES) where
     to-bytes-of : (a : TextAnswer) → r .answer ≡ a → toBytesOf s ≡ outputOf s (textPaper a) (sheetBytes (viewSheet (r .sheet)))
     unfolding toBytesOf
     to-bytes-of a e =

@@ -1,14 +1,14 @@
 -- What was put at the front of the buffer is what is sent: a line of a refusal, a sheet's text and a newline, a sheet's bytes.
 -- Assumes nothing.
 use mathlib.Core.Path.{_≡_, refl, ap, _∙_, sym, subst}
-use mathlib.Core.List.{List, [], _∷_, _++_}
-use Prim.Native.Nat.{ℕ, zero, suc, _+_, _*_, _<_, _≤_}
+use mathlib.Core.List.{List, [], _∷_}
+use Prim.Native.Nat.{ℕ, suc, _+_, _*_, _<_, _≤_}
 use native.Mathlib.Nat.{zero-add}
 use native.Mathlib.Omega.{arith}
 use lib.ListN.{length, set, length-append}
 use Rattle.base_lists.specs.Lists.{chain}
 use Rattle.base_lists.proofs.Sets.{sets-front}
-use Rattle.base_words.specs.Text.{word, digits, natural, PutsText}
+use Rattle.base_words.specs.Text.{PutsText}
 use Rattle.base_words.proofs.Putting.{puts-then, puts-byte}
 use Rattle.base_bounds.specs.Bounds.{OPERATORS}
 use Rattle.sheet_operator.specs.Op.{Op}
@@ -31,7 +31,7 @@ use Rattle.text_parts.specs.Put.{PutsUpTo}
 use Rattle.text_print.specs.Names.{SHEET_TEXT}
 use Rattle.text_form.specs.Form.{sheetText}
 use Rattle.text_programs.specs.declared.Sent.{Sent}
-use Rattle.text_programs.specs.Output.{Output, out, outsideLine, textLine}
+use Rattle.text_programs.specs.Output.{Output, out, textLine}
 use Rattle.text_programs.specs.Sends.{OUTPUT, Sends}
 
 -- the same output
@@ -48,12 +48,6 @@ pub sends-text : (t : Sheet) {before mid : List ℕ} {n : ℕ} → PutsUpTo SHEE
     Sends (out (textLine (viewSheet t))) before (set mid n 10) (record { size = n + 1; failed = out (textLine (viewSheet t)) .failed })
 sends-text t {mid = mid} {n = n} p room =
     sends-puts (out (textLine (viewSheet t))) (puts-then (p .puts) (puts-byte mid n 10)) (omega (arith, p .most)) room
-
--- the line of 19 in the pieces in which it is put
-pub outside-line : (byte : ℕ) (place : ℕ × ℕ) → outsideLine 19 byte place
-    ≡ (word "refused 19 at byte " ++ natural byte) ++ ((word ", line " ++ natural (place .0)) ++ ((word " column " ++ natural (place .1)) ++ word "\n"))
-unfolding outsideLine natural digits
-outside-line byte place = refl
 
 -- ---- no sheet has more bytes than its head and sixteen of the longest records
 

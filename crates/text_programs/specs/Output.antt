@@ -1,12 +1,14 @@
 -- What `to_text` and `to_bytes` put out of an input: bytes on one of the two streams, and nothing on the other.
-use Prim.Native.Nat.{ℕ, suc}
+use Prim.Native.Nat.{ℕ}
 use mathlib.Core.Bool.{Bool, true, false, cond}
-use mathlib.Core.List.{List, [], _∷_, _++_}
+use mathlib.Core.List.{List, _++_}
 use mathlib.Core.Option.{some, none}
-use lib.Dec.{eqb, leb}
-use lib.ListN.{length, take}
-use Rattle.base_words.specs.Text.{word, natural}
+use lib.Dec.{leb}
+use lib.ListN.{length}
+use Rattle.base_bounds.specs.Bounds.{INPUT_BYTES}
+use Rattle.base_words.specs.Text.{word}
 use Rattle.bench_lines.specs.Lines.{refusalLine}
+use Rattle.text_places.specs.Places.{placeOf, outsideLine}
 use Rattle.sheet_operator.specs.Op.{Abstract}
 use Rattle.sheet.specs.Sheet.{viewSheet}
 use Rattle.codec_read.specs.Read.{readOf}
@@ -27,23 +29,6 @@ err xs = record { failed = true; bytes = xs }
 
 -- ---- the line of a refusal
 
--- a place is a line and a column, both from 1: a line feed ends a line, every other byte is one column
-abbrev pub pastByte : ℕ × ℕ → ℕ → ℕ × ℕ
-pastByte p x = cond (eqb x 10) (suc (p .0), 1) (p .0, suc (p .1))
-
-unfoldable pub placeAfter : ℕ × ℕ → List ℕ → ℕ × ℕ
-placeAfter p [] = p
-placeAfter p (x ∷ xs) = placeAfter (pastByte p x) xs
-
--- of byte b of an input
-abbrev pub placeOf : List ℕ → ℕ → ℕ × ℕ
-placeOf s b = placeAfter (1, 1) (take b s)
-
-unfoldable pub outsideLine : ℕ → ℕ → ℕ × ℕ → List ℕ
-outsideLine number byte place =
-    word "refused " ++ (natural number ++ (word " at byte " ++ (natural byte ++ (word ", line " ++ (natural (place .0)
-    ++ (word " column " ++ (natural (place .1) ++ word "\n")))))))
-
 -- neither reading refuses without a place; such a refusal would be told at record 0
 abbrev pub lineOf : List ℕ → ℕ → Spot → List ℕ
 lineOf s number nowhere = refusalLine number 0
@@ -57,12 +42,9 @@ abbrev pub outputOf : List ℕ → TextPaper → List ℕ → Output
 outputOf s none xs = out xs
 outputOf s (some (number, spot)) xs = err (lineOf s number spot)
 
--- a longer input is 18 at record 0
-abbrev pub INPUT : ℕ
-INPUT = 32768
-
+-- an input over the bound is 18 at record 0
 abbrev pub limited : List ℕ → Output → Output
-limited s o = cond (leb (length s) INPUT) o (err (refusalLine 18 0))
+limited s o = cond (leb (length s) INPUT_BYTES) o (err (refusalLine 18 0))
 
 -- a sheet's text and one newline
 abbrev pub textLine : Abstract → List ℕ

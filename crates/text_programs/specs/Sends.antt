@@ -4,23 +4,12 @@ use mathlib.Core.List.{List, _++_}
 use Prim.Native.Nat.{ℕ, _+_, _≤_}
 use lib.ListN.{length, drop}
 use Rattle.text_print.specs.Names.{SHEET_TEXT}
-use Rattle.text_programs.specs.declared.Place.{Place}
 use Rattle.text_programs.specs.declared.Sent.{Sent}
 use Rattle.text_programs.specs.Output.{Output}
 
 -- no output is longer
 abbrev pub OUTPUT : ℕ
 OUTPUT = SHEET_TEXT + 1
-
--- a number of the program's, and the line of a refusal at a byte, are not longer
-abbrev pub NATURAL_TEXT : ℕ
-NATURAL_TEXT = 20
-
-abbrev pub OUTSIDE_TEXT : ℕ
-OUTSIDE_TEXT = 95
-
-abbrev pub placed : Place → ℕ × ℕ
-placed p = (p .line, p .column)
 
 -- the output at the front of the buffer, and the rest of it as it was
 pub record Sends (o : Output) (before after : List ℕ) (r : Sent) : Type 0 where

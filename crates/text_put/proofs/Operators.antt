@@ -1,26 +1,21 @@
--- The printed forms of operators, piece by piece.
+-- The printed forms of operators without ways, piece by piece, and an operator's form by its kind.
 -- Assumes nothing.
-use Prim.Native.String as text
-use mathlib.Core.Path.{_≡_, ap, _∙_, sym, subst}
-use mathlib.Core.List.{List, [], _∷_, _++_, append-assoc}
-use Prim.Native.Nat.{ℕ}
+use mathlib.Core.Path.{_≡_, ap, sym, subst}
+use mathlib.Core.List.{List, [], _∷_, _++_}
+use Prim.Native.Nat.{ℕ, _+_, _*_, _≤_}
+use native.Mathlib.Omega.{arith}
 use lib.ListN.{getD}
-use Rattle.sheet_operator.specs.Memory.{view, viewAs, ways, stepsIn}
+use Rattle.sheet_operator.specs.Memory.{PLACES, view, viewAs, stepsIn}
 use Rattle.sheet_operator.specs.declared.Kind.{Kind}
-use Rattle.sheet_operator.specs.declared.Kind.the-variants.{Line, Latest, Double, Deal, Gather}
+use Rattle.sheet_operator.specs.declared.Kind.the-variants.{Line, Latest, Double}
 use Rattle.sheet_operator.specs.declared.Operator.{Operator}
-use Rattle.base_words.specs.Text.{word, natural}
-use Rattle.text_grammar.specs.Tokens.{tight, loose, printed, at-once, spaced, queueAs, variableAs, lineTokens, waysTokens, opTokens}
-use Rattle.text_parts.specs.Put.{PutsUpTo}
+use Rattle.base_words.specs.Text.{word, PutsText}
+use Rattle.text_grammar.specs.Tokens.{tight, printed, at-once, queueAs, lineTokens, opTokens}
+use Rattle.text_parts.specs.Put.{PutsUpTo, BAR_TEXT}
 use Rattle.text_parts.proofs.Listed.{printed-append}
-
--- a word and a number, and what follows them
-abbrev numbered : text.String → ℕ → List ℕ
-numbered w n = word w ++ natural n
-
--- two of them as one piece
-two : (w v : text.String) (m n : ℕ) (r : List ℕ) → numbered w m ++ (numbered v n ++ r) ≡ (numbered w m ++ numbered v n) ++ r
-two w v m n r = sym (append-assoc (numbered w m) (numbered v n) r)
+use Rattle.text_parts.proofs.Pieces.{piece, then, within, spelt}
+use Rattle.text_put_ways.specs.Put.{OPERATOR_TEXT}
+use Rattle.text_put_ways.proofs.Ways.{numbered, room, two-as-one}
 
 module _ (o : Operator) where
   abbrev p : ℕ
@@ -29,37 +24,26 @@ module _ (o : Operator) where
   abbrev q : ℕ
   q = getD (o .outs) 0 0
 
-  pub line-text : printed (opTokens (viewAs Line o))
-      ≡ numbered " (q" q ++ (word ") <-" ++ (printed (lineTokens (stepsIn (o .count) (o .steps))) ++ (numbered "(q" p ++ word ")")))
+  abbrev steps : List ℕ
+  steps = printed (lineTokens (stepsIn (o .count) (o .steps)))
+
+  line-text : printed (opTokens (viewAs Line o)) ≡ numbered " (q" q ++ (word ") <-" ++ (steps ++ (numbered "(q" p ++ word ")")))
   line-text =
       ap (λ (l : List ℕ). numbered " (q" q ++ (word ") <-" ++ l))
       (printed-append (lineTokens (stepsIn (o .count) (o .steps))) (at-once "(" ∷ queueAs tight p ∷ at-once ")" ∷ []))
 
+  pub line-puts : {s t u v x : List ℕ} {at b d e end : ℕ} → o .count ≤ PLACES → PutsUpTo (room " (q") (numbered " (q" q) s at t b →
+      PutsText (word ") <-") t b u d → PutsUpTo (BAR_TEXT * o .count) steps u d v e → PutsUpTo (room "(q" + 1) (numbered "(q" p ++ word ")") v e x end →
+      PutsUpTo OPERATOR_TEXT (printed (opTokens (viewAs Line o))) s at x end
+  line-puts few f g h k = spelt line-text (within OPERATOR_TEXT (omega (arith, few)) (then f (then (piece 4 (omega arith) g) (then h k))))
+
   pub latest-text : printed (opTokens (viewAs Latest o))
       ≡ (numbered " ($v" (o .variable) ++ numbered ") <- Latest[" (o .field)) ++ (numbered "](q" p ++ word ")")
-  latest-text = two " ($v" ") <- Latest[" (o .variable) (o .field) (numbered "](q" p ++ word ")")
+  latest-text = two-as-one " ($v" ") <- Latest[" (o .variable) (o .field) (numbered "](q" p ++ word ")")
 
   pub double-text : printed (opTokens (viewAs Double o))
       ≡ (numbered " (q" q ++ numbered ", q" (getD (o .outs) 1 0)) ++ (numbered ") <- Double(q" p ++ word ")")
-  double-text = two " (q" ", q" q (getD (o .outs) 1 0) (numbered ") <- Double(q" p ++ word ")")
-
-  pub deal-text : printed (opTokens (viewAs Deal o))
-      ≡ word " (" ++ (printed (waysTokens (ways (o .count) (o .outs))) ++ ((numbered " $v" (o .variable) ++ numbered ") <- Deal(q" p)
-      ++ (numbered ", $v" (o .variable) ++ word ")")))
-  deal-text =
-      ap (λ (l : List ℕ). word " (" ++ l)
-      (printed-append (waysTokens (ways (o .count) (o .outs))) (variableAs loose (o .variable) ∷ at-once ")" ∷ spaced "<-" ∷ spaced "Deal" ∷ at-once "("
-      ∷ queueAs tight p ∷ at-once "," ∷ variableAs loose (o .variable) ∷ at-once ")" ∷ [])
-      ∙ ap (λ (l : List ℕ). printed (waysTokens (ways (o .count) (o .outs))) ++ l)
-      (two " $v" ") <- Deal(q" (o .variable) p (numbered ", $v" (o .variable) ++ word ")")))
-
-  pub gather-text : printed (opTokens (viewAs Gather o))
-      ≡ (numbered " (q" q ++ numbered ", $v" (o .variable))
-      ++ (word ") <- Gather(" ++ (printed (waysTokens (ways (o .count) (o .ins))) ++ (numbered " $v" (o .variable) ++ word ")")))
-  gather-text =
-      ap (λ (l : List ℕ). numbered " (q" q ++ (numbered ", $v" (o .variable) ++ (word ") <- Gather(" ++ l)))
-      (printed-append (waysTokens (ways (o .count) (o .ins))) (variableAs loose (o .variable) ∷ at-once ")" ∷ []))
-      ∙ two " (q" ", $v" q (o .variable) (word ") <- Gather(" ++ (printed (waysTokens (ways (o .count) (o .ins))) ++ (numbered " $v" (o .variable) ++ word ")")))
+  double-text = two-as-one " (q" ", q" q (getD (o .outs) 1 0) (numbered ") <- Double(q" p ++ word ")")
 
 -- an operator, by its kind
 pub operator-by : {k : ℕ} {s t : List ℕ} {at end : ℕ} (o : Operator) (x : Kind) → o .kind ≡ x → PutsUpTo k (printed (opTokens (viewAs x o))) s at t end →

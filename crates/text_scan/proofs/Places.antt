@@ -11,9 +11,8 @@ use lib.ListN.{length, getD, drop}
 use lib.Seq.{drop-cons}
 use borrow.Author.Tests.{eq-eqb, ne-eqb, lt-ltb, le-ltb, leb-true}
 use Rattle.base_lists.specs.Lists.{member}
-use Rattle.base_lists.proofs.Members.{not-in}
 use Rattle.base_lists.proofs.Tests.{or-left, both, neither-of}
-use Rattle.text_scan.specs.Reader.{got, lost, isBlank, DIGITS, isDigit, here, sign, digits, goesOn, digitOn}
+use Rattle.text_scan.specs.Reader.{got, lost, isBlank, isDigit, here, sign, digits, goesOn, digitOn}
 use Rattle.text_scan.specs.Cursor.{afterBlanks}
 
 pub one-more : (s : List ℕ) (i : ℕ) → i < length s → drop i s ≡ getD s i 0 ∷ drop (i + 1) s
@@ -82,32 +81,6 @@ module _ (s ms : List ℕ) (at : ℕ) where
   pub here-is : at < length s → member (getD s at 0) ms ≡ true → got (getD s at 0) (drop (at + 1) s) ≡ here ms (drop at s)
   unfolding here
   here-is h e = rw (one-more s at h) (sym (ap (λ (c : Bool). cond c (got (getD s at 0) (drop (at + 1) s)) (lost (getD s at 0 ∷ drop (at + 1) s))) e))
-
--- ---- a digit
-
-digit-in : (k : ℕ) → k < 10 → member (48 + k) DIGITS ≡ true
-digit-in zero h = refl
-digit-in (suc zero) h = refl
-digit-in (suc (suc zero)) h = refl
-digit-in (suc (suc (suc zero))) h = refl
-digit-in (suc (suc (suc (suc zero)))) h = refl
-digit-in (suc (suc (suc (suc (suc zero))))) h = refl
-digit-in (suc (suc (suc (suc (suc (suc zero)))))) h = refl
-digit-in (suc (suc (suc (suc (suc (suc (suc zero))))))) h = refl
-digit-in (suc (suc (suc (suc (suc (suc (suc (suc zero)))))))) h = refl
-digit-in (suc (suc (suc (suc (suc (suc (suc (suc (suc zero))))))))) h = refl
-digit-in (suc (suc (suc (suc (suc (suc (suc (suc (suc (suc k)))))))))) h = absurd (omega arith)
-
-pub digit-member : (b : ℕ) → isDigit b ≡ true → member b DIGITS ≡ true
-digit-member b h =
-    let e = both (leb 48 b) (leb b 57) h in
-    let l = leb-true 48 b (e .0) in
-    let m = leb-true b 57 (e .1) in
-    let f : b ≡ 48 + (b - 48) = omega arith in
-    ap (λ (x : ℕ). member x DIGITS) f ∙ digit-in (b - 48) (omega arith)
-
-pub digit-not : (b : ℕ) → isDigit b ≡ false → member b DIGITS ≡ false
-digit-not b h = not-in isDigit DIGITS b refl h
 
 -- ---- one byte that is given
 

@@ -63,9 +63,6 @@ spell [] s = got 0 s
 spell (c ∷ w) s = bind (here (c ∷ []) s) (λ (b : ℕ). spell w)
 
 -- the further digits of a number that is n so far, while it stays at most `top`; nothing follows a 0
-abbrev pub DIGITS : List ℕ
-DIGITS = 48 ∷ 49 ∷ 50 ∷ 51 ∷ 52 ∷ 53 ∷ 54 ∷ 55 ∷ 56 ∷ 57 ∷ []
-
 abbrev pub isDigit : ℕ → Bool
 isDigit b = leb 48 b && leb b 57
 

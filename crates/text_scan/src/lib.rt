@@ -4,7 +4,7 @@ ghost use Prim.Native.Nat.{_+_, _-_, _≤_, _<_};
 ghost use mathlib.Core.List.{[], _∷_};
 ghost use lib.ListN.{length, drop};
 ghost use Rattle.base_lists.specs.Lists.{member};
-ghost use Rattle.text_scan.specs.Reader.{isBlank, here, sign, spell, DIGITS, digits, isDigit, goesOn};
+ghost use Rattle.text_scan.specs.Reader.{isBlank, here, sign, spell, digits, isDigit, goesOn};
 ghost use Rattle.text_scan.specs.Cursor.{afterBlanks, stands, Goes};
 
 // Where reading stands, and what was read last; or that it is lost there.
@@ -178,56 +178,6 @@ fn is_digit(b: u8) -> bool
         return false;
     }
     b <= 57
-}
-
-// A digit, at once.
-pub fn digit_here(s: &[u8], c: Cursor) -> Cursor
-    requires { ⌜ c .at ≤ length (now s) ⌝ }
-    ensures { λ r. ⌜ Goes (now (s .entry)) c (λ _. here DIGITS) r ⌝ }
-{
-    if !c.ok {
-        return c;
-    }
-    let at = c.at;
-    if s.len() <= at {
-        return Cursor {
-            ok: false,
-            at,
-            value: 0,
-        };
-    }
-    let b = s[at];
-    if !is_digit(b) {
-        return Cursor {
-            ok: false,
-            at,
-            value: 0,
-        };
-    }
-    Cursor {
-        ok: true,
-        at: at + 1,
-        value: b as u32,
-    }
-}
-
-// A digit, after blanks.
-pub fn digit_sign(s: &[u8], c: Cursor) -> Cursor
-    requires { ⌜ c .at ≤ length (now s) ⌝ }
-    ensures { λ r. ⌜ Goes (now (s .entry)) c (λ _. sign DIGITS) r ⌝ }
-{
-    if !c.ok {
-        return c;
-    }
-    let at = skip(s, c.at);
-    digit_here(
-        s,
-        Cursor {
-            ok: true,
-            at,
-            value: 0,
-        },
-    )
 }
 
 // The digit that a byte is, 0 for what lies below.

@@ -1,14 +1,14 @@
 -- How reading a step ends, and a line's steps turn by turn.
 -- Assumes nothing.
 use Prim.Native.Nat.{ℕ, suc, _+_, _-_, _<_, _≤_}
-use mathlib.Core.Path.{_≡_, refl, ap, _∙_, sym}
+use mathlib.Core.Path.{_≡_, refl, ap, _∙_, sym, subst}
 use mathlib.Core.List.{List}
 use native.Mathlib.Omega.{arith}
-use lib.ListN.{length, drop, replicate}
+use lib.ListN.{length, drop, set, replicate}
 use Rattle.sheet_step.specs.declared.Step.{Step}
 use Rattle.base_lists.specs.Lists.{pad}
 use Rattle.sheet_step.specs.Step.{noStep}
-use Rattle.sheet_operator.specs.Memory.{PLACES, stepsIn}
+use Rattle.sheet_operator.specs.Memory.{PLACES}
 use Rattle.base_words.specs.Text.{word}
 use Rattle.text_scan.specs.declared.Cursor.{Cursor}
 use Rattle.text_scan.specs.Reader.{got, Reader, bind, _>>=_, _>>_, sign}
@@ -18,7 +18,7 @@ use Rattle.text_scan.proofs.Filled.{filled-more, front-more}
 use Rattle.text_grammar.specs.Readers.{step, steps, snoc}
 use Rattle.text_steps.specs.declared.StepFound.{StepFound}
 use Rattle.text_steps.specs.declared.HeldSteps.{HeldSteps}
-use Rattle.text_steps.specs.Steps.{GoesStep, stepsOf, Filled, WithStep}
+use Rattle.text_steps.specs.Steps.{GoesStep, after, stepsOf, Filled}
 
 -- ---- one step
 
@@ -40,17 +40,19 @@ goes-step-as {s} d t u l h e =
 pub none-filled : Filled (record { count = 0; steps = replicate PLACES noStep })
 none-filled = record { small = omega arith; places = refl }
 
-module _ (h : HeldSteps) (t : Step) (r : HeldSteps) (l : h .count < PLACES) (f : Filled h) (w : WithStep h t r) where
-  pub steps-more : stepsOf r ≡ snoc (stepsOf h) t
-  steps-more =
-      ap (λ (k : ℕ). stepsIn k (r .steps)) (w .count) ∙ ap (stepsIn (h .count + 1)) (w .steps)
-      ∙ front-more PLACES noStep (h .steps) (h .count) t l (f .places)
+-- one step more, stored in the next place
+abbrev pub withStep : HeldSteps → Step → HeldSteps
+withStep h t = record { count = h .count + 1; steps = set (h .steps) (h .count) t }
 
-  pub still-filled : Filled r
+module _ (h : HeldSteps) (t : Step) (l : h .count < PLACES) (f : Filled h) where
+  pub steps-more : stepsOf (withStep h t) ≡ snoc (stepsOf h) t
+  steps-more = front-more PLACES noStep (h .steps) (h .count) t l (f .places)
+
+  pub still-filled : Filled (withStep h t)
   still-filled =
       record {
-        small = omega (arith, w .count);
-        places = w .steps ∙ filled-more PLACES noStep (h .steps) (h .count) t l (f .places) ∙ ap (pad PLACES noStep) (sym steps-more);
+        small = omega arith;
+        places = filled-more PLACES noStep (h .steps) (h .count) t l (f .places) ∙ ap (pad PLACES noStep) (sym steps-more);
       }
 
 -- after a step
@@ -58,8 +60,11 @@ module _ {A : Type 0} (s : List ℕ) (d : Cursor) (t : StepFound) (g : GoesStep 
   pub step-then : bind (stands s d) (λ (x : ℕ). step >>= K) ≡ bind (standsAs (t .ok) 0 (drop (t .at) s)) (λ (x : ℕ). K (t .step))
   step-then = found-then s d (λ (x : ℕ). step) (t .ok) (t .step) (drop (t .at) s) (g .reads) K
 
-abbrev after : StepFound → Cursor
-after t = record { ok = t .ok; at = t .at; value = 0 }
+pub behind-within : {n : ℕ} (t : StepFound) (b : Cursor) → b ≡ after t → t .at ≤ n → b .at ≤ n
+behind-within {n} t b e l = subst (λ (x : Cursor). x .at ≤ n) (sym e) l
+
+pub goes-behind : {s : List ℕ} {b m : Cursor} {P : ℕ → Reader ℕ} (t : StepFound) → b ≡ after t → Goes s b P m → Goes s (after t) P m
+goes-behind {s} {b} {m} {P} t e g = subst (λ (x : Cursor). Goes s x P m) e g
 
 -- a turn that is not the last: the mark after the step decides
 module _ (s : List ℕ) (d : Cursor) (t : StepFound) (m : Cursor) (h w : HeldSteps) (j : ℕ)

@@ -1,8 +1,8 @@
 -- What reading a step and reading a line's steps answer.
-use Prim.Native.Nat.{ℕ, _+_, _≤_}
+use Prim.Native.Nat.{ℕ, _≤_}
 use mathlib.Core.Path.{_≡_}
 use mathlib.Core.List.{List}
-use lib.ListN.{length, drop, set}
+use lib.ListN.{length, drop}
 use Rattle.base_lists.specs.Lists.{pad}
 use Rattle.sheet_step.specs.Step.{noStep}
 use Rattle.sheet_step.specs.declared.Step.{Step}
@@ -19,6 +19,10 @@ pub record GoesStep (s : List ℕ) (c : Cursor) (P : ℕ → Reader Step) (r : S
   pub within : r .at ≤ length s
   pub reads : standsAs (r .ok) (r .step) (drop (r .at) s) ≡ bind (stands s c) P
 
+-- where reading stands behind a step
+abbrev pub after : StepFound → Cursor
+after t = record { ok = t .ok; at = t .at; value = 0 }
+
 -- the steps that were read, and no step in the places behind them
 abbrev pub stepsOf : HeldSteps → List Step
 stepsOf h = stepsIn (h .count) (h .steps)
@@ -26,11 +30,6 @@ stepsOf h = stepsIn (h .count) (h .steps)
 pub record Filled (h : HeldSteps) : Type 0 where
   pub small : h .count ≤ PLACES
   pub places : h .steps ≡ pad PLACES noStep (stepsOf h)
-
--- one step more
-pub record WithStep (h : HeldSteps) (t : Step) (r : HeldSteps) : Type 0 where
-  pub count : r .count ≡ h .count + 1
-  pub steps : r .steps ≡ set (h .steps) (h .count) t
 
 -- a line's steps
 pub record GoesSteps (s : List ℕ) (c : Cursor) (P : ℕ → Reader (List Step)) (r : StepsFound) : Type 0 where

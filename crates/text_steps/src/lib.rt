@@ -3,15 +3,15 @@ use sheet_operator::PLACES;
 use sheet_step::Func;
 use sheet_step::Step;
 use text_scan::Cursor;
+ghost use mathlib.Core.Path.{_≡_};
 ghost use mathlib.Core.List.{[]};
-ghost use Prim.Native.Nat.{_<_, _≤_};
+ghost use Prim.Native.Nat.{_≤_};
 ghost use lib.ListN.{length};
-ghost use Rattle.sheet_operator.specs.Memory.{PLACES};
 ghost use Rattle.base_words.specs.Text.{word};
 ghost use Rattle.text_scan.specs.Reader.{sign};
 ghost use Rattle.text_scan.specs.Cursor.{Goes};
 ghost use Rattle.text_grammar.specs.Readers.{onVariable, keep, add, copy, count, stamp, copyOrCount, step, steps};
-ghost use Rattle.text_steps.specs.Steps.{GoesStep, WithStep, GoesSteps};
+ghost use Rattle.text_steps.specs.Steps.{after, GoesStep, GoesSteps};
 
 const BAR: u32 = b'|' as u32;
 
@@ -195,16 +195,14 @@ fn step(s: &[u8], c: Cursor) -> StepFound
     stamp(s, b)
 }
 
-// One step more, in the next place.
-fn with_step(h: HeldSteps, t: Step) -> HeldSteps
-    requires { ⌜ h .count < PLACES ⌝ }
-    ensures { λ r. ⌜ WithStep h t r ⌝ }
+// Where reading stands behind a step.
+fn behind(t: StepFound) -> Cursor
+    ensures { λ r. ⌜ r ≡ after t ⌝ }
 {
-    let mut steps = h.steps;
-    steps[h.count as usize] = t;
-    HeldSteps {
-        count: h.count + 1,
-        steps,
+    Cursor {
+        ok: t.ok,
+        at: t.at,
+        value: 0,
     }
 }
 
@@ -216,7 +214,7 @@ fn bar_or_open(s: &[u8], c: Cursor) -> Cursor
     text_scan::sign(s, c, b"|(")
 }
 
-// A line's steps and the `(` behind them: three with a choice of what follows, and then the fourth.
+// A line's steps and the `(` behind them: three with a choice of what follows, and then the fourth. Each is stored in its place.
 pub fn steps(s: &[u8], c: Cursor) -> StepsFound
     requires { ⌜ c .at ≤ length (now s) ⌝ }
     ensures { λ r. ⌜ GoesSteps (now (s .entry)) c (λ _. steps 3 []) r ⌝ }
@@ -230,13 +228,9 @@ pub fn steps(s: &[u8], c: Cursor) -> StepsFound
     while 0 < k {
         let t = step(s, d);
         let st = t.step;
-        let h = with_step(held, st);
-        held = h;
-        let e = Cursor {
-            ok: t.ok,
-            at: t.at,
-            value: 0,
-        };
+        held.steps[held.count as usize] = st;
+        held.count += 1;
+        let e = behind(t);
         let m = bar_or_open(s, e);
         if m.value != BAR {
             return StepsFound {
@@ -250,16 +244,13 @@ pub fn steps(s: &[u8], c: Cursor) -> StepsFound
     }
     let t = step(s, d);
     let st = t.step;
-    let h = with_step(held, st);
-    let e = Cursor {
-        ok: t.ok,
-        at: t.at,
-        value: 0,
-    };
+    held.steps[held.count as usize] = st;
+    held.count += 1;
+    let e = behind(t);
     let m = text_scan::mark(s, e, b'(');
     StepsFound {
         ok: m.ok,
         at: m.at,
-        held: h,
+        held,
     }
 }

@@ -12,7 +12,7 @@ use Rattle.base_lists.proofs.Build.{order}
 use Rattle.base_lists.proofs.Tests.{both, false-of}
 use Rattle.base_words.specs.Text.{word}
 use Rattle.sheet_operator.specs.Op.{Op}
-use Rattle.sheet_operator.specs.Memory.{memory}
+use Rattle.sheet_operator.specs.Memory.{memory, noOperator}
 use Rattle.sheet_operator.specs.declared.Operator.{Operator}
 use Rattle.text_scan.specs.declared.Cursor.{Cursor}
 use Rattle.text_scan.specs.Reader.{Res, got, lost, Reader, bind, sign, isBlank, toEnd}
@@ -23,29 +23,42 @@ use Rattle.text_scan.proofs.Whole.{ended, goes-on, smaller}
 use Rattle.text_scan.proofs.Binding.{same-bind, bind-same}
 use Rattle.text_grammar.specs.Readers.{operator, snoc, itemBy}
 use Rattle.text_grammar.proofs.ExactText.{exact-item, no-item}
-use Rattle.text_operators.specs.declared.Found.{Found}
-use Rattle.text_operators.specs.Found.{GoesTo}
+use Rattle.text_ways.specs.declared.Found.{Found}
+use Rattle.text_ways.specs.Found.{GoesTo}
 use Rattle.text_tree.specs.declared.HeldOperators.{HeldOperators}
-use Rattle.text_tree.specs.declared.OperatorsFound.{OperatorsFound}
-use Rattle.text_tree.specs.Tree.{heldOf, none, put, putOp, GoesItem}
+use Rattle.text_tree.specs.Tree.{heldOf, none, put, putOp, itself, GoesItem}
 use Rattle.text_tree.proofs.Held.{operators-kept}
 
 -- ---- one operator and its semicolon
 
-pub item-goes : (s : List ℕ) (c : Cursor) (f : Found) (m : Cursor) (h w : HeldOperators) → GoesTo s c (λ (x : ℕ). operator) f →
-    Goes s (record { ok = f .ok; at = f .at; value = 0 }) (λ (x : ℕ). sign (word ";")) m → w ≡ put h (f .op) →
-    standsAs (m .ok) w (drop (m .at) s) ≡ bind (stands s c) (λ (x : ℕ). itemBy putOp h)
-item-goes s c f m h w g k e =
-    ap (λ (x : HeldOperators). standsAs (m .ok) x (drop (m .at) s)) e ∙ at-last s m (put h (f .op))
+pub item-goes : (s : List ℕ) (c : Cursor) (f : Found) (m : Cursor) → GoesTo s c (λ (x : ℕ). operator) f →
+    Goes s (record { ok = f .ok; at = f .at; value = 0 }) (λ (x : ℕ). sign (word ";")) m →
+    standsAs (m .ok) (f .op) (drop (m .at) s) ≡ bind (stands s c) (λ (x : ℕ). itemBy itself noOperator)
+item-goes s c f m g k =
+    at-last s m (f .op)
     ∙ sym (bind-same (stands s c) (λ a t. sym (same-bind (operator t) (λ (o : Op). got (memory o)) semicolon))
     ∙ found-then s c inMemory (f .ok) (f .op) (drop (f .at) s) (g .reads ∙ same-bind (stands s c) (λ (x : ℕ). operator) (λ (o : Op). got (memory o))) semicolon
-    ∙ then k (λ (b : ℕ). got (put h (f .op))))
+    ∙ then k (λ (b : ℕ). got (f .op)))
   where
     inMemory : ℕ → Reader Operator
     inMemory x t = bind (operator t) (λ (o : Op). got (memory o))
 
-    semicolon : Operator → Reader HeldOperators
-    semicolon o t = bind (sign (word ";") t) (λ (b : ℕ). got (put h o))
+    semicolon : Operator → Reader Operator
+    semicolon o t = bind (sign (word ";") t) (λ (b : ℕ). got o)
+
+-- an item that is put is an item, put
+item-put : (h : HeldOperators) (s : List ℕ) → itemBy putOp h s ≡ bind (itemBy itself noOperator s) (λ (o : Operator). got (put h o))
+item-put h s = after-operator (operator s)
+  where
+    after-mark : (o : Op) (x : Res ℕ) → bind x (λ (b : ℕ). got (putOp h o)) ≡ bind (bind x (λ (b : ℕ). got (memory o))) (λ (m : Operator). got (put h m))
+    after-mark o (got b t) = refl
+    after-mark o (lost t) = refl
+
+    after-operator : (x : Res Op) →
+        bind x (λ (o : Op) (t : List ℕ). bind (sign (word ";") t) (λ (b : ℕ). got (putOp h o)))
+        ≡ bind (bind x (λ (o : Op) (t : List ℕ). bind (sign (word ";") t) (λ (b : ℕ). got (memory o)))) (λ (m : Operator). got (put h m))
+    after-operator (got o t) = after-mark o (sign (word ";") t)
+    after-operator (lost t) = refl
 
 -- ---- where only blanks are left
 
@@ -84,19 +97,24 @@ module _ (s : List ℕ) (d : Cursor) (h : HeldOperators) (ok : d .ok ≡ true) (
     more-left =
         false-of _ (λ b. let f : length (drop end s) ≡ 0 = ap length (e ∙ all-blank (drop (d .at) s) b) in omega (arith, length-drop end s))
 
-    pub goes-further : (r : OperatorsFound) → GoesItem s d h r → toEndOf s d h ≡ toEndOf s (record { ok = r .ok; at = r .at; value = 0 }) (r .held)
+    pub goes-further : (r : Found) → GoesItem s d r → toEndOf s d h ≡ toEndOf s (record { ok = r .ok; at = r .at; value = 0 }) (put h (r .op))
     goes-further r g =
         from-here s d h ok ∙ goes-on (itemBy putOp) (exact-item putOp) (no-item putOp) h (drop (d .at) s) more-left
-        ∙ sym (ap (λ (b : Bool). bind (standsAs b (d .value) (drop (d .at) s)) (λ (x : ℕ) (t : List ℕ). bind (itemBy putOp h t) (toEnd (itemBy putOp)))) ok)
-        ∙ found-then s d (λ (x : ℕ). itemBy putOp h) (r .ok) (r .held) (drop (r .at) s) (g .reads) (toEnd (itemBy putOp))
+        ∙ ap (λ (x : Res HeldOperators). bind x (toEnd (itemBy putOp))) (item-put h (drop (d .at) s))
+        ∙ same-bind (itemBy itself noOperator (drop (d .at) s)) (λ (o : Operator). got (put h o)) (toEnd (itemBy putOp))
+        ∙ sym (ap (λ (b : Bool). bind (standsAs b (d .value) (drop (d .at) s)) (λ (x : ℕ) (t : List ℕ). bind (itemBy itself noOperator t) rest)) ok)
+        ∙ found-then s d (λ (x : ℕ). itemBy itself noOperator) (r .ok) (r .op) (drop (r .at) s) (g .reads) rest
+      where
+        rest : Operator → Reader HeldOperators
+        rest o = toEnd (itemBy putOp) (put h o)
 
 -- what is left of the text falls, or nothing is left to do
-module _ (s : List ℕ) (d : Cursor) (h : HeldOperators) (r : OperatorsFound) (g : GoesItem s d h r) (ok : d .ok ≡ true) where
+module _ (s : List ℕ) (d : Cursor) (r : Found) (g : GoesItem s d r) (ok : d .ok ≡ true) where
   shorter : r .ok ≡ true → length s - r .at < length s - d .at
   shorter k =
-      let f = sym (ap (λ (b : Bool). bind (standsAs b (d .value) (drop (d .at) s)) (λ (x : ℕ). itemBy putOp h)) ok) ∙ sym (g .reads)
-      ∙ ap (λ (b : Bool). standsAs b (r .held) (drop (r .at) s)) k in
-      let l = smaller (itemBy putOp) (exact-item putOp) (no-item putOp) h (drop (d .at) s) (r .held) (drop (r .at) s) f in
+      let f = sym (ap (λ (b : Bool). bind (standsAs b (d .value) (drop (d .at) s)) (λ (x : ℕ). itemBy itself noOperator)) ok) ∙ sym (g .reads)
+      ∙ ap (λ (b : Bool). standsAs b (r .op) (drop (r .at) s)) k in
+      let l = smaller (itemBy itself) (exact-item itself) (no-item itself) noOperator (drop (d .at) s) (r .op) (drop (r .at) s) f in
       omega (arith, length-drop (d .at) s, length-drop (r .at) s)
 
   pub item-less : cond (r .ok) (suc (length s - r .at)) 0 < cond (d .ok) (suc (length s - d .at)) 0

@@ -1,5 +1,5 @@
 -- What the program keeps of a text's head and operators, and what reading them answers.
-use Prim.Native.Nat.{ℕ, suc, _+_, _≤_}
+use Prim.Native.Nat.{ℕ, suc, _+_, _-_, _≤_}
 use mathlib.Core.Path.{_≡_}
 use mathlib.Core.Bool.{cond}
 use mathlib.Core.List.{List, [], map}
@@ -16,6 +16,7 @@ use Rattle.text_scan.specs.Kept.{counted}
 use Rattle.text_scan.specs.Cursor.{standsAs, stands}
 use Rattle.text_grammar.specs.Readers.{Tree, snoc, head, itemBy}
 use Rattle.text_grammar.specs.Begins.{fromOutputs, fromInputs}
+use Rattle.text_ways.specs.declared.Found.{Found}
 use Rattle.text_lists.specs.declared.KeptNames.{KeptNames}
 use Rattle.text_lists.specs.Names.{keptOf}
 use Rattle.text_tree.specs.declared.HeldOperators.{HeldOperators}
@@ -26,22 +27,31 @@ use Rattle.text_tree.specs.declared.HeadFound.{HeadFound}
 abbrev pub heldOf : List Op → HeldOperators
 heldOf os = record { count = counted OPERATORS (length os); operators = pad OPERATORS noOperator (map memory os) }
 
--- no operator yet, and one more
+-- no operator yet
 abbrev pub none : HeldOperators
 none = heldOf []
 
+-- one more: the place it goes to, and how many there are then
+abbrev pub nextPlace : ℕ → ℕ
+nextPlace k = cond (leb OPERATORS k) (OPERATORS - 1) k
+
+abbrev pub nextCount : ℕ → ℕ
+nextCount k = cond (leb OPERATORS k) (suc OPERATORS) (k + 1)
+
 unfoldable pub put : HeldOperators → Operator → HeldOperators
-put h o =
-    cond (leb OPERATORS (h .count)) (record { count = suc OPERATORS; operators = h .operators })
-    (record { count = h .count + 1; operators = set (h .operators) (h .count) o })
+put h o = record { count = nextCount (h .count); operators = cond (leb OPERATORS (h .count)) (h .operators) (set (h .operators) (h .count) o) }
 
 abbrev pub putOp : HeldOperators → Op → HeldOperators
 putOp h o = put h (memory o)
 
+-- what is kept of an item: the operator in memory
+abbrev pub itself : Operator → Op → Operator
+itself old o = memory o
+
 -- one operator and its semicolon
-pub record GoesItem (s : List ℕ) (c : Cursor) (h : HeldOperators) (r : OperatorsFound) : Type 0 where
+pub record GoesItem (s : List ℕ) (c : Cursor) (r : Found) : Type 0 where
   pub within : r .at ≤ length s
-  pub reads : standsAs (r .ok) (r .held) (drop (r .at) s) ≡ bind (stands s c) (λ (x : ℕ). itemBy putOp h)
+  pub reads : standsAs (r .ok) (r .op) (drop (r .at) s) ≡ bind (stands s c) (λ (x : ℕ). itemBy itself noOperator)
 
 -- the operators up to the end
 pub record GoesOperators (s : List ℕ) (c : Cursor) (r : OperatorsFound) : Type 0 where

@@ -3,11 +3,15 @@ use base_bounds::OPERATORS;
 use sheet_operator::Operator;
 use text_lists::KeptNames;
 use text_scan::Cursor;
+use text_ways::Found;
 ghost use mathlib.Core.Path.{_≡_};
+ghost use mathlib.Core.Bool.{cond};
 ghost use Prim.Native.Nat.{_≤_};
 ghost use lib.ListN.{length};
+ghost use lib.Dec.{leb};
+ghost use Rattle.base_bounds.specs.Bounds.{OPERATORS};
 ghost use Rattle.text_grammar.specs.Readers.{head};
-ghost use Rattle.text_tree.specs.Tree.{put, none, GoesOperators, GoesItem, Heads};
+ghost use Rattle.text_tree.specs.Tree.{none, nextPlace, nextCount, GoesOperators, GoesItem, Heads};
 
 pub const HELD: usize = OPERATORS as usize;
 
@@ -44,29 +48,40 @@ fn no_operators() -> HeldOperators
     }
 }
 
-// One operator more, while there is a place for it.
-fn with_operator(h: HeldOperators, o: Operator) -> HeldOperators
-    ensures { λ r. ⌜ r ≡ put h o ⌝ }
+// The place of the operator after k; the last one where all are taken.
+fn next_place(k: u8) -> usize
+    ensures { λ r. ⌜ r ≡ nextPlace k ⌝ }
 {
-    let k = h.count;
-    let mut operators = h.operators;
     if OPERATORS <= k {
-        return HeldOperators {
-            count: OPERATORS + 1,
-            operators,
-        };
+        return HELD - 1;
     }
-    operators[k as usize] = o;
-    HeldOperators {
-        count: k + 1,
-        operators,
+    k as usize
+}
+
+// What stands at that place then: the new operator while there is a place for it, else the old one.
+fn chosen(k: u8, old: Operator, new: Operator) -> Operator
+    ensures { λ r. ⌜ r ≡ cond (leb OPERATORS k) old new ⌝ }
+{
+    if OPERATORS <= k {
+        return old;
     }
+    new
+}
+
+// How many there are with one more; one past the places stands for any more.
+fn next_count(k: u8) -> u8
+    ensures { λ r. ⌜ r ≡ nextCount k ⌝ }
+{
+    if OPERATORS <= k {
+        return OPERATORS + 1;
+    }
+    k + 1
 }
 
 // One operator and the semicolon after it.
-fn item(s: &[u8], c: Cursor, h: HeldOperators) -> OperatorsFound
+fn item(s: &[u8], c: Cursor) -> Found
     requires { ⌜ c .at ≤ length (now s) ⌝ }
-    ensures { λ r. ⌜ GoesItem (now (s .entry)) c h r ⌝ }
+    ensures { λ r. ⌜ GoesItem (now (s .entry)) c r ⌝ }
 {
     let f = text_operators::operator(s, c);
     let op = f.op;
@@ -76,15 +91,14 @@ fn item(s: &[u8], c: Cursor, h: HeldOperators) -> OperatorsFound
         value: 0,
     };
     let m = text_scan::mark(s, d, b';');
-    let held = with_operator(h, op);
-    OperatorsFound {
+    Found {
         ok: m.ok,
         at: m.at,
-        held,
+        op,
     }
 }
 
-// The operators up to the end of the text.
+// The operators up to the end of the text. Each is stored in its place, so that the others are not copied.
 pub fn operators(s: &[u8], c: Cursor) -> OperatorsFound
     requires { ⌜ c .at ≤ length (now s) ⌝ }
     ensures { λ r. ⌜ GoesOperators (now (s .entry)) c r ⌝ }
@@ -100,9 +114,14 @@ pub fn operators(s: &[u8], c: Cursor) -> OperatorsFound
                 held,
             };
         }
-        let f = item(s, d, held);
-        let h = f.held;
-        held = h;
+        let f = item(s, d);
+        let new = f.op;
+        let k = held.count;
+        let p = next_place(k);
+        let old = held.operators[p];
+        let o = chosen(k, old, new);
+        held.operators[p] = o;
+        held.count = next_count(k);
         d = Cursor {
             ok: f.ok,
             at: f.at,

@@ -10,7 +10,7 @@ use borrow.Author.Needs.{needs}
 use borrow.Author.Tests.{not-true, not-false}
 use Rattle.base_lists.specs.Lists.{build, all}
 use Rattle.base_lists.proofs.Tests.{all-more, all-stop}
-use Rattle.sheet_judge.proofs.Loops.{all-end}
+use Rattle.sheet_operator.proofs.InTurn.{all-end}
 use Rattle.base_bounds.specs.Bounds.{QUEUES, ROOM}
 use Rattle.counts.specs.Worst.{feedGood}
 use Rattle.counts.proofs.feed_good.Statement.{statement}

@@ -12,7 +12,7 @@ use Rattle.sheet_step.specs.Step.{noStep}
 use Rattle.sheet_step.specs.declared.Step.{Step}
 use Rattle.sheet_operator.specs.declared.Operator.{Operator}
 use Rattle.sheet_operator.specs.Memory.{stepsIn}
-use Rattle.sheet_judge.proofs.Loops.{all-end}
+use Rattle.sheet_operator.proofs.InTurn.{all-end}
 use Rattle.rewrite_reorder.specs.Working.{stepLeaves}
 use Rattle.rewrite_reorder.proofs.Fields.{leaves-each}
 use Rattle.rewrite_reorder.proofs.leaves.Statement.{statement}

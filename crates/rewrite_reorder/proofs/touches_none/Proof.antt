@@ -9,7 +9,7 @@ use Rattle.base_lists.specs.Lists.{all}
 use Rattle.base_lists.proofs.Tests.{all-more, all-stop}
 use Rattle.sheet_step.specs.Step.{noStep}
 use Rattle.sheet_operator.specs.Memory.{stepsIn}
-use Rattle.sheet_judge.proofs.Loops.{all-end}
+use Rattle.sheet_operator.proofs.InTurn.{all-end}
 use Rattle.rewrite_rules.specs.Rewrite.{touchesNone}
 use Rattle.rewrite_reorder.proofs.touches_none.Statement.{statement}
 use Rattle.rewrite_reorder.proofs.touches_none.Tie as tie

@@ -11,7 +11,7 @@ use Rattle.base_lists.proofs.Tests.{all-more, all-stop}
 use Rattle.sheet_step.specs.Step.{noStep}
 use Rattle.sheet_step.specs.declared.Step.{Step}
 use Rattle.sheet_operator.specs.Memory.{stepsIn}
-use Rattle.sheet_judge.proofs.Loops.{all-end}
+use Rattle.sheet_operator.proofs.InTurn.{all-end}
 use Rattle.rewrite_rules.specs.Rewrite.{touchesNone, writesSome}
 use Rattle.rewrite_split.proofs.steps_free.Statement.{statement}
 use Rattle.rewrite_split.proofs.steps_free.Tie as tie

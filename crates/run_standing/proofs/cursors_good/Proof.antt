@@ -9,7 +9,7 @@ use lib.IntN.{ℤ}
 use mathlib.Core.List.{List}
 use Rattle.base_lists.specs.Lists.{build, all}
 use Rattle.base_lists.proofs.Tests.{all-more, all-stop}
-use Rattle.sheet_judge.proofs.Loops.{all-end}
+use Rattle.sheet_operator.proofs.InTurn.{all-end}
 use Rattle.sheet_operator.specs.Op.{Op}
 use Rattle.sheet_operator.specs.Memory.{view}
 use Rattle.sheet_format.proofs.Heads.{HeadRanges}

@@ -12,7 +12,7 @@ use lib.IntN.{ℤ}
 use lib.ListN.{length, drop}
 use Rattle.base_lists.specs.Lists.{all}
 use Rattle.sheet_operator.specs.Op.{Op, Abstract}
-use Rattle.sheet_judge.proofs.Loops.{first-fails, second-decides}
+use Rattle.sheet_operator.proofs.InTurn.{first-fails, second-decides}
 use Rattle.sheet.specs.Sheet.{viewSheet}
 use Rattle.sheet.proofs.Accepted.{ranges-of-accepted}
 use Rattle.run_store.specs.Store.{STORE}

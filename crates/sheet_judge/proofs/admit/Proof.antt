@@ -6,7 +6,8 @@ use Rattle.base_lists.proofs.Members.{all-below}
 use Rattle.sheet_operator.specs.Op.{names}
 use Rattle.sheet_operator.specs.Memory.{view}
 use Rattle.sheet_judge.specs.Judge.{judgeBy}
-use Rattle.sheet_judge.specs.Seen.{FLAGS, knownBy}
+use Rattle.sheet_sets.specs.Sets.{FLAGS}
+use Rattle.sheet_judge.specs.Seen.{knownBy}
 use Rattle.sheet_judge.proofs.JudgedLaws.{judged-four, judged-six, six-names, four-flagged}
 use Rattle.sheet_judge.proofs.admit.Statement.{statement}
 use Rattle.sheet_judge.proofs.admit.Tie as tie

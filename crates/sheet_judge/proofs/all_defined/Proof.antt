@@ -8,7 +8,7 @@ use borrow.Author.Tests.{not-true, not-false}
 use Rattle.base_lists.specs.Lists.{build, all, has}
 use Rattle.base_lists.proofs.Tests.{all-more, all-stop}
 use Rattle.sheet_judge.specs.Judge.{whole}
-use Rattle.sheet_judge.proofs.Loops.{all-end}
+use Rattle.sheet_operator.proofs.InTurn.{all-end}
 use Rattle.sheet_judge.proofs.all_defined.Statement.{statement}
 use Rattle.sheet_judge.proofs.all_defined.Tie as tie
 

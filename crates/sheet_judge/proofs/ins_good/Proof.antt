@@ -10,7 +10,7 @@ use borrow.Author.Tests.{not-true, not-false}
 use Rattle.base_lists.specs.Lists.{all, has}
 use Rattle.base_lists.proofs.Tests.{all-more, all-stop}
 use Rattle.sheet_operator.specs.Memory.{ways}
-use Rattle.sheet_judge.proofs.Loops.{all-end}
+use Rattle.sheet_operator.proofs.InTurn.{all-end}
 use Rattle.sheet_judge.proofs.ins_good.Statement.{statement}
 use Rattle.sheet_judge.proofs.ins_good.Tie as tie
 

@@ -9,7 +9,7 @@ use borrow.Author.Tests.{lt-ltb, le-ltb}
 use Rattle.base_lists.specs.Lists.{all}
 use Rattle.base_lists.proofs.Tests.{all-more, all-stop}
 use Rattle.sheet_operator.specs.Memory.{ways}
-use Rattle.sheet_judge.proofs.Loops.{all-end}
+use Rattle.sheet_operator.proofs.InTurn.{all-end}
 use Rattle.sheet_judge.proofs.outs_good.Statement.{statement}
 use Rattle.sheet_judge.proofs.outs_good.Tie as tie
 

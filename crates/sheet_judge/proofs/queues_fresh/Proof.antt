@@ -8,7 +8,7 @@ use Rattle.base_lists.specs.Lists.{all, fresh, has}
 use Rattle.sheet_operator.specs.Op.{defines}
 use Rattle.sheet_operator.specs.Memory.{view}
 use Rattle.sheet_judge.specs.Judge.{five}
-use Rattle.sheet_judge.proofs.Loops.{first-fails, second-decides}
+use Rattle.sheet_operator.proofs.InTurn.{first-fails, second-decides}
 use Rattle.sheet_judge.proofs.Shapes.{ins-small, outs-small, ins-told, outs-told}
 use Rattle.sheet_judge.proofs.queues_fresh.Statement.{statement}
 use Rattle.sheet_judge.proofs.queues_fresh.Tie as tie

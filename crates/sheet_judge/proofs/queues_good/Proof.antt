@@ -9,7 +9,7 @@ use Rattle.base_lists.specs.Lists.{all, has}
 use Rattle.sheet_operator.specs.Op.{reads}
 use Rattle.sheet_operator.specs.Memory.{view}
 use Rattle.sheet_judge.specs.Judge.{four}
-use Rattle.sheet_judge.proofs.Loops.{first-fails, second-decides}
+use Rattle.sheet_operator.proofs.InTurn.{first-fails, second-decides}
 use Rattle.sheet_judge.proofs.Shapes.{ins-small, outs-small, ins-told, outs-told}
 use Rattle.sheet_judge.proofs.queues_good.Statement.{statement}
 use Rattle.sheet_judge.proofs.queues_good.Tie as tie

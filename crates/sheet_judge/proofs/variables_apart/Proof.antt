@@ -2,7 +2,7 @@
 use borrow.Author.Needs.{needs}
 use borrow.Author.Tests.{not-true, not-false}
 use Rattle.sheet_judge.specs.Judge.{six}
-use Rattle.sheet_judge.proofs.Loops.{first-fails, second-decides}
+use Rattle.sheet_operator.proofs.InTurn.{first-fails, second-decides}
 use Rattle.sheet_judge.proofs.variables_apart.Statement.{statement}
 use Rattle.sheet_judge.proofs.variables_apart.Tie as tie
 

@@ -13,6 +13,7 @@ use Rattle.sheet_step.specs.declared.Step.{Step}
 use borrow.Author.Needs.{needs}
 use borrow.Author.Tests.{not-true, not-false}
 use Rattle.sheet_operator.specs.Memory.{PLACES}
+use Rattle.sheet_operator.proofs.InTurn.{all-end}
 use Rattle.sheet_operator.proofs.blanks_from.Statement.{statement}
 use Rattle.sheet_operator.proofs.blanks_from.Tie as tie
 
@@ -61,7 +62,7 @@ loop-again c =
     )
 
 returns-2 : tie.Need-returns-2 Inv-loop μ-loop
-returns-2 c = let e : c .before .loop .j ≡ PLACES = omega arith in sym (rw e at (c .before .loop .inv .1))
+returns-2 c = all-end _ _ _ _ (c .before .loop .inv .0) (c .loop-test .left) (c .before .loop .inv .1)
 
 pub blanks-from-spec : {M : Type 1} → statement M
 blanks-from-spec =

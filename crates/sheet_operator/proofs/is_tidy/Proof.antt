@@ -1,19 +1,13 @@
 -- `sheet_operator::is_tidy` meets its contract: the tests in order, the shape's by what `shape_of` ensures.
-use mathlib.Core.Path.{_≡_, _∙_, sym, ap}
-use mathlib.Core.Bool.{Bool, true, false, _&&_}
+use mathlib.Core.Path.{_≡_, refl, _∙_, ap}
+use mathlib.Core.Bool.{Bool, false}
 use borrow.Author.Needs.{needs}
 use borrow.Author.Tests.{lt-leb, le-leb, not-true, not-false}
 use Rattle.sheet_operator.specs.Memory.{tidyAs, tidy}
 use Rattle.sheet_operator.specs.declared.Shape.{Shape}
+use Rattle.sheet_operator.proofs.InTurn.{first-fails, second-decides}
 use Rattle.sheet_operator.proofs.is_tidy.Statement.{statement}
 use Rattle.sheet_operator.proofs.is_tidy.Tie as tie
-
--- a test that fails decides, and one that passes leaves it to the rest
-fails : (a r : Bool) → a ≡ false → false ≡ (a && r)
-fails a r h = rw h
-
-passes : (a r x : Bool) → a ≡ true → x ≡ r → x ≡ (a && r)
-passes a r x h e = rw h e
 
 by-shape : (d : tie.After-shape-of) (b : Bool) → b ≡ tidyAs (d .shape-of .result) (d .before .args .o) → b ≡ tidy (d .before .args .o)
 by-shape d b e = e ∙ ap (λ (s : Shape). tidyAs s (d .before .args .o)) (d .shape-of .ensures)
@@ -23,13 +17,13 @@ shape-of-requires c κs = search needs
 
 returns : tie.Need-returns
 unfolding tidyAs
-returns c = by-shape (c .before .before) false (fails _ _ (lt-leb _ _ (c .if1 .taken)))
+returns c = by-shape (c .before .before) false (first-fails _ _ _ refl (lt-leb _ _ (c .if1 .taken)))
 
 returns-2 : tie.Need-returns-2
 unfolding tidyAs
 returns-2 c =
     let e1 = c .before .before in
-    by-shape (e1 .before .before) false (passes _ _ _ (le-leb _ _ (e1 .if1 .left)) (fails _ _ (lt-leb _ _ (c .if2 .taken))))
+    by-shape (e1 .before .before) false (second-decides _ _ _ _ refl (le-leb _ _ (e1 .if1 .left)) (first-fails _ _ _ refl (lt-leb _ _ (c .if2 .taken))))
 
 cast-zeros-from : tie.Need-cast-zeros-from
 cast-zeros-from c = search needs
@@ -43,8 +37,8 @@ returns-3 c =
     let e2 = c .before .before .before .before in
     let e1 = e2 .before .before in
     by-shape (e1 .before .before) false
-    (passes _ _ _ (le-leb _ _ (e1 .if1 .left)) (passes _ _ _ (le-leb _ _ (e2 .if2 .left))
-    (fails _ _ (sym (c .before .zeros-from .ensures) ∙ not-true _ (c .if3 .taken)))))
+    (second-decides _ _ _ _ refl (le-leb _ _ (e1 .if1 .left)) (second-decides _ _ _ _ refl (le-leb _ _ (e2 .if2 .left))
+    (first-fails _ _ _ (c .before .zeros-from .ensures) (not-true _ (c .if3 .taken)))))
 
 cast-zeros-from-2 : tie.Need-cast-zeros-from-2
 cast-zeros-from-2 c = search needs
@@ -59,9 +53,9 @@ returns-4 c =
     let e2 = e3 .before .before .before .before in
     let e1 = e2 .before .before in
     by-shape (e1 .before .before) false
-    (passes _ _ _ (le-leb _ _ (e1 .if1 .left)) (passes _ _ _ (le-leb _ _ (e2 .if2 .left))
-    (passes _ _ _ (sym (e3 .before .zeros-from .ensures) ∙ not-false _ (e3 .if3 .left))
-    (fails _ _ (sym (c .before .zeros-from2 .ensures) ∙ not-true _ (c .if4 .taken))))))
+    (second-decides _ _ _ _ refl (le-leb _ _ (e1 .if1 .left)) (second-decides _ _ _ _ refl (le-leb _ _ (e2 .if2 .left))
+    (second-decides _ _ _ _ (e3 .before .zeros-from .ensures) (not-false _ (e3 .if3 .left))
+    (first-fails _ _ _ (c .before .zeros-from2 .ensures) (not-true _ (c .if4 .taken))))))
 
 cast-blanks-from : tie.Need-cast-blanks-from
 cast-blanks-from c = search needs
@@ -77,10 +71,10 @@ returns-5 c =
     let e2 = e3 .before .before .before .before in
     let e1 = e2 .before .before in
     by-shape (e1 .before .before) false
-    (passes _ _ _ (le-leb _ _ (e1 .if1 .left)) (passes _ _ _ (le-leb _ _ (e2 .if2 .left))
-    (passes _ _ _ (sym (e3 .before .zeros-from .ensures) ∙ not-false _ (e3 .if3 .left))
-    (passes _ _ _ (sym (e4 .before .zeros-from2 .ensures) ∙ not-false _ (e4 .if4 .left))
-    (fails _ _ (sym (c .before .blanks-from .ensures) ∙ not-true _ (c .if5 .taken)))))))
+    (second-decides _ _ _ _ refl (le-leb _ _ (e1 .if1 .left)) (second-decides _ _ _ _ refl (le-leb _ _ (e2 .if2 .left))
+    (second-decides _ _ _ _ (e3 .before .zeros-from .ensures) (not-false _ (e3 .if3 .left))
+    (second-decides _ _ _ _ (e4 .before .zeros-from2 .ensures) (not-false _ (e4 .if4 .left))
+    (first-fails _ _ _ (c .before .blanks-from .ensures) (not-true _ (c .if5 .taken)))))))
 
 used-or-zero-requires : tie.Need-used-or-zero-requires
 used-or-zero-requires c κs = search needs
@@ -94,11 +88,11 @@ returns-6 c =
     let e2 = e3 .before .before .before .before in
     let e1 = e2 .before .before in
     by-shape (e1 .before .before) false
-    (passes _ _ _ (le-leb _ _ (e1 .if1 .left)) (passes _ _ _ (le-leb _ _ (e2 .if2 .left))
-    (passes _ _ _ (sym (e3 .before .zeros-from .ensures) ∙ not-false _ (e3 .if3 .left))
-    (passes _ _ _ (sym (e4 .before .zeros-from2 .ensures) ∙ not-false _ (e4 .if4 .left))
-    (passes _ _ _ (sym (e5 .before .blanks-from .ensures) ∙ not-false _ (e5 .if5 .left))
-    (fails _ _ (sym (c .before .used-or-zero .ensures) ∙ not-true _ (c .if6 .taken))))))))
+    (second-decides _ _ _ _ refl (le-leb _ _ (e1 .if1 .left)) (second-decides _ _ _ _ refl (le-leb _ _ (e2 .if2 .left))
+    (second-decides _ _ _ _ (e3 .before .zeros-from .ensures) (not-false _ (e3 .if3 .left))
+    (second-decides _ _ _ _ (e4 .before .zeros-from2 .ensures) (not-false _ (e4 .if4 .left))
+    (second-decides _ _ _ _ (e5 .before .blanks-from .ensures) (not-false _ (e5 .if5 .left))
+    (first-fails _ _ _ (c .before .used-or-zero .ensures) (not-true _ (c .if6 .taken))))))))
 
 used-or-zero-requires-2 : tie.Need-used-or-zero-requires-2
 used-or-zero-requires-2 c κs = search needs
@@ -113,11 +107,11 @@ returns-7 c =
     let e2 = e3 .before .before .before .before in
     let e1 = e2 .before .before in
     by-shape (e1 .before .before) (c .used-or-zero2 .result)
-    (passes _ _ _ (le-leb _ _ (e1 .if1 .left)) (passes _ _ _ (le-leb _ _ (e2 .if2 .left))
-    (passes _ _ _ (sym (e3 .before .zeros-from .ensures) ∙ not-false _ (e3 .if3 .left))
-    (passes _ _ _ (sym (e4 .before .zeros-from2 .ensures) ∙ not-false _ (e4 .if4 .left))
-    (passes _ _ _ (sym (e5 .before .blanks-from .ensures) ∙ not-false _ (e5 .if5 .left))
-    (passes _ _ _ (sym (e6 .before .used-or-zero .ensures) ∙ not-false _ (e6 .if6 .left))
+    (second-decides _ _ _ _ refl (le-leb _ _ (e1 .if1 .left)) (second-decides _ _ _ _ refl (le-leb _ _ (e2 .if2 .left))
+    (second-decides _ _ _ _ (e3 .before .zeros-from .ensures) (not-false _ (e3 .if3 .left))
+    (second-decides _ _ _ _ (e4 .before .zeros-from2 .ensures) (not-false _ (e4 .if4 .left))
+    (second-decides _ _ _ _ (e5 .before .blanks-from .ensures) (not-false _ (e5 .if5 .left))
+    (second-decides _ _ _ _ (e6 .before .used-or-zero .ensures) (not-false _ (e6 .if6 .left))
     (c .used-or-zero2 .ensures)))))))
 
 pub is-tidy-spec : {M : Type 1} → statement M

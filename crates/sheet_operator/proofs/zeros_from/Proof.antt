@@ -11,6 +11,7 @@ use Rattle.base_lists.proofs.Tests.{all-more, all-stop}
 use borrow.Author.Needs.{needs}
 use borrow.Author.Tests.{not-true, not-false}
 use Rattle.sheet_operator.specs.Memory.{PLACES}
+use Rattle.sheet_operator.proofs.InTurn.{all-end}
 use Rattle.sheet_operator.proofs.zeros_from.Statement.{statement}
 use Rattle.sheet_operator.proofs.zeros_from.Tie as tie
 
@@ -56,7 +57,7 @@ loop-again c =
     )
 
 returns-2 : tie.Need-returns-2 Inv-loop μ-loop
-returns-2 c = let e : c .before .loop .j ≡ PLACES = omega arith in sym (rw e at (c .before .loop .inv .1))
+returns-2 c = all-end _ _ _ _ (c .before .loop .inv .0) (c .loop-test .left) (c .before .loop .inv .1)
 
 pub zeros-from-spec : {M : Type 1} → statement M
 zeros-from-spec =

@@ -7,11 +7,15 @@ use Rattle.text_names.proofs.byte.Reads as reads
 use Rattle.text_names.proofs.byte.Lts as lts
 use Rattle.text_names.proofs.settled.Reads as settled-reads
 use Rattle.text_scan.proofs.digits.Reads as digits-reads
-use Rattle.text_scan.proofs.digit_sign.Reads as digit-sign-reads
+use Rattle.text_scan.proofs.sign.Reads as sign-reads
+
+-- src/lib.rt:36:40
+slice-aggregate-sign : tie.Need-slice-aggregate-sign
+slice-aggregate-sign c = search needs
 
 -- src/lib.rt:49:9
-digit-sign-requires : tie.Need-digit-sign-requires
-digit-sign-requires c κs = search needs
+sign-requires : tie.Need-sign-requires
+sign-requires c κs = search needs
 
 -- src/lib.rt:50:9
 digits-requires : tie.Need-digits-requires
@@ -24,10 +28,10 @@ settled-requires c κs = search needs
 -- src/lib.rt:45:1
 returns : tie.Need-returns
 returns c =
-    named (goes-then (c .before .before .digit-sign .ensures) (c .before .digits .ensures)) (c .settled .ensures)
+    named (goes-then (c .before .before .sign .ensures) (c .before .digits .ensures)) (c .settled .ensures)
     (λ x t m r e. byte-small t m r e)
 
 pub byte-spec : {M : Type 1} → statement M
 byte-spec =
     tie.close
-    (tie.spec digit-sign-requires digits-requires settled-requires returns)
+    (tie.spec slice-aggregate-sign sign-requires digits-requires settled-requires returns)

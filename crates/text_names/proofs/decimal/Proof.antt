@@ -7,11 +7,15 @@ use Rattle.text_names.proofs.decimal.Reads as reads
 use Rattle.text_names.proofs.decimal.Lts as lts
 use Rattle.text_names.proofs.settled.Reads as settled-reads
 use Rattle.text_scan.proofs.digits.Reads as digits-reads
-use Rattle.text_scan.proofs.digit_here.Reads as digit-here-reads
+use Rattle.text_scan.proofs.here.Reads as here-reads
+
+-- src/lib.rt:36:40
+slice-aggregate-here : tie.Need-slice-aggregate-here
+slice-aggregate-here c = search needs
 
 -- src/lib.rt:40:9
-digit-here-requires : tie.Need-digit-here-requires
-digit-here-requires c κs = search needs
+here-requires : tie.Need-here-requires
+here-requires c κs = search needs
 
 -- src/lib.rt:41:9
 digits-requires : tie.Need-digits-requires
@@ -24,11 +28,11 @@ settled-requires c κs = search needs
 -- src/lib.rt:36:1
 returns : tie.Need-returns
 returns c =
-    let d = c .before .before .before .before in
-    named (goes-then (c .before .before .digit-here .ensures) (c .before .digits .ensures)) (c .settled .ensures)
+    let d = c .before .before .before .before .before in
+    named (goes-then (c .before .before .here .ensures) (c .before .digits .ensures)) (c .settled .ensures)
     (λ x t m r e. decimal-small (d .args .top) (d .pre .1) t m r e)
 
 pub decimal-spec : {M : Type 1} → statement M
 decimal-spec =
     tie.close
-    (tie.spec digit-here-requires digits-requires settled-requires returns)
+    (tie.spec slice-aggregate-here here-requires digits-requires settled-requires returns)

@@ -1,7 +1,7 @@
 use native.Mathlib.Omega.{arith}
 use mathlib.Core.Path.{_∙_}
 use Rattle.text_scan.proofs.Going.{then}
-use Rattle.text_operators.proofs.OperatorLaws.{goes-to}
+use Rattle.text_ways.proofs.FoundLaws.{goes-to}
 use Rattle.sheet_operator.specs.Op.{latest}
 use borrow.Author.Needs.{needs}
 use Rattle.text_operators.proofs.latest.Statement.{statement}

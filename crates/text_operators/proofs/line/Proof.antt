@@ -6,7 +6,7 @@ use Rattle.sheet_operator.specs.Op.{line}
 use Rattle.text_scan.proofs.Going.{then, found-then}
 use Rattle.text_grammar.specs.Readers.{steps}
 use Rattle.text_steps.specs.Steps.{stepsOf}
-use Rattle.text_operators.proofs.OperatorLaws.{goes-to}
+use Rattle.text_ways.proofs.FoundLaws.{goes-to}
 use borrow.Author.Needs.{needs}
 use Rattle.text_operators.proofs.line.Statement.{statement}
 use Rattle.text_operators.proofs.line.Tie as tie

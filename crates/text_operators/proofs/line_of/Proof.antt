@@ -1,4 +1,4 @@
-use Rattle.text_operators.proofs.OperatorLaws.{line-in-places}
+use Rattle.text_operators.proofs.LineLaws.{line-in-places}
 use Rattle.text_operators.proofs.line_of.Statement.{statement}
 use Rattle.text_operators.proofs.line_of.Tie as tie
 use Rattle.text_operators.proofs.line_of.Reads as reads

@@ -1,12 +1,12 @@
 use Rattle.text_scan.proofs.Going.{then-yes, then-no}
-use Rattle.text_operators.proofs.OperatorLaws.{goes-to-after}
+use Rattle.text_ways.proofs.FoundLaws.{goes-to-after}
 use borrow.Author.Needs.{needs}
 use Rattle.text_operators.proofs.more.Statement.{statement}
 use Rattle.text_operators.proofs.more.Tie as tie
 use Rattle.text_operators.proofs.more.Reads as reads
 use Rattle.text_operators.proofs.more.Lts as lts
-use Rattle.text_operators.proofs.gather.Reads as gather-reads
-use Rattle.text_operators.proofs.queue_or_variable.Reads as queue-or-variable-reads
+use Rattle.text_ways.proofs.gather.Reads as gather-reads
+use Rattle.text_ways.proofs.queue_or_variable.Reads as queue-or-variable-reads
 use Rattle.text_operators.proofs.two.Reads as two-reads
 
 -- src/lib.rt:344:9

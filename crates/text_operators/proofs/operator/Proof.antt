@@ -1,13 +1,13 @@
 use mathlib.Core.Path.{_∙_}
 use Rattle.text_scan.proofs.Going.{then, then-yes, then-no}
-use Rattle.text_operators.proofs.OperatorLaws.{goes-to-after}
+use Rattle.text_ways.proofs.FoundLaws.{goes-to-after}
 use borrow.Author.Needs.{needs}
 use Rattle.text_operators.proofs.operator.Statement.{statement}
 use Rattle.text_operators.proofs.operator.Tie as tie
 use Rattle.text_operators.proofs.operator.Reads as reads
 use Rattle.text_operators.proofs.operator.Lts as lts
 use Rattle.text_operators.proofs.latest.Reads as latest-reads
-use Rattle.text_operators.proofs.queue_or_variable.Reads as queue-or-variable-reads
+use Rattle.text_ways.proofs.queue_or_variable.Reads as queue-or-variable-reads
 use Rattle.text_operators.proofs.queue_to.Reads as queue-to-reads
 use Rattle.text_scan.proofs.mark.Reads as mark-reads
 

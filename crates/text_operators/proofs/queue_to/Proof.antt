@@ -1,6 +1,6 @@
 use mathlib.Core.Path.{_∙_}
 use Rattle.text_scan.proofs.Going.{then, then-yes, then-no}
-use Rattle.text_operators.proofs.OperatorLaws.{goes-to-after}
+use Rattle.text_ways.proofs.FoundLaws.{goes-to-after}
 use borrow.Author.Needs.{needs}
 use Rattle.text_operators.proofs.queue_to.Statement.{statement}
 use Rattle.text_operators.proofs.queue_to.Tie as tie

@@ -1,13 +1,13 @@
 use mathlib.Core.Path.{_∙_}
 use Rattle.text_scan.proofs.Going.{then, then-yes, then-no}
-use Rattle.text_operators.proofs.OperatorLaws.{goes-to-after}
+use Rattle.text_ways.proofs.FoundLaws.{goes-to-after}
 use borrow.Author.Needs.{needs}
 use Rattle.text_operators.proofs.two.Statement.{statement}
 use Rattle.text_operators.proofs.two.Tie as tie
 use Rattle.text_operators.proofs.two.Reads as reads
 use Rattle.text_operators.proofs.two.Lts as lts
 use Rattle.text_names.proofs.decimal.Reads as decimal-reads
-use Rattle.text_operators.proofs.deal.Reads as deal-reads
+use Rattle.text_ways.proofs.deal.Reads as deal-reads
 use Rattle.text_operators.proofs.double.Reads as double-reads
 use Rattle.text_scan.proofs.sign.Reads as sign-reads
 

@@ -1,6 +1,5 @@
 -- `text_programs::to_bytes` meets its contract: one law for each way out.
 -- Assumes nothing.
-use denote.Ref.{now}
 use Rattle.text_programs.proofs.Sending.{sends-as}
 use Rattle.text_programs.proofs.Programs.{to-bytes-long, to-bytes-accepted, to-bytes-within, to-bytes-done, to-bytes-refused-at, to-bytes-refused, to-bytes-outside}
 use borrow.Author.Needs.{needs}

@@ -1,6 +1,5 @@
 -- `text_programs::to_text` meets its contract: one law for each way out.
 -- Assumes nothing.
-use denote.Ref.{now}
 use Rattle.text_programs.proofs.Sending.{sends-as}
 use Rattle.text_programs.proofs.Programs.{to-text-long, to-text-accepted, to-text-done, to-text-refused-at, to-text-refused}
 use borrow.Author.Needs.{needs}

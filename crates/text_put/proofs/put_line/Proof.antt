@@ -1,9 +1,6 @@
 -- `text_put::put_line` meets its contract: one piece after another.
 -- Assumes nothing.
-use native.Mathlib.Omega.{arith}
-use Rattle.text_parts.proofs.Pieces.{piece, then, within, spelt}
-use Rattle.text_put.specs.Put.{OPERATOR_TEXT}
-use Rattle.text_put.proofs.Operators.{line-text}
+use Rattle.text_put.proofs.Operators.{line-puts}
 use borrow.Author.Needs.{needs}
 use Rattle.text_put.proofs.put_line.Statement.{statement}
 use Rattle.text_put.proofs.put_line.Tie as tie
@@ -48,9 +45,8 @@ returns c =
     let at-put-word = at-put-steps .before .before .before .before in
     let at-put-byte = at-put-word .before .before .before .before .before in
     let start = at-put-byte .before .before .before .before .before .before in
-    spelt (line-text (start .args .t3))
-    (within OPERATOR_TEXT (omega (arith, start .pre .0))
-    (then (at-put-byte .put-byte .ensures) (then (piece 4 (omega arith) (at-put-word .put-word .ensures)) (then (at-put-steps .put-steps .ensures) (at-put-last .put-last .ensures)))))
+    line-puts (start .args .t3) (start .pre .0) (at-put-byte .put-byte .ensures) (at-put-word .put-word .ensures) (at-put-steps .put-steps .ensures)
+    (at-put-last .put-last .ensures)
 
 pub put-line-spec : {M : Type 1} → statement M
 put-line-spec =

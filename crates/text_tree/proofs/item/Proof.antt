@@ -6,7 +6,6 @@ use Rattle.text_tree.proofs.item.Reads as reads
 use Rattle.text_tree.proofs.item.Lts as lts
 use Rattle.text_operators.proofs.operator.Reads as operator-reads
 use Rattle.text_scan.proofs.mark.Reads as mark-reads
-use Rattle.text_tree.proofs.with_operator.Reads as with-operator-reads
 
 -- src/lib.rt:72:9
 operator-requires : tie.Need-operator-requires
@@ -16,21 +15,15 @@ operator-requires c κs = search needs
 mark-requires : tie.Need-mark-requires
 mark-requires c κs = search needs
 
--- src/lib.rt:80:9
-with-operator-requires : tie.Need-with-operator-requires
-with-operator-requires c κs = search needs
-
 -- src/lib.rt:68:1
 returns : tie.Need-returns
 returns c =
-    let m = c .before in
-    let f = m .before .before in
+    let f = c .before .before in
     let a = f .before .before .args in
     record {
-      within = m .mark .ensures .within;
-      reads = item-goes (a .s .now) (a .c) (f .operator .result) (m .mark .result) (a .h) (c .with-operator .result) (f .operator .ensures) (m .mark .ensures)
-          (c .with-operator .ensures);
+      within = c .mark .ensures .within;
+      reads = item-goes (a .s .now) (a .c) (f .operator .result) (c .mark .result) (f .operator .ensures) (c .mark .ensures);
     }
 
 pub item-spec : {M : Type 1} → statement M
-item-spec = tie.close (tie.spec operator-requires mark-requires with-operator-requires returns)
+item-spec = tie.close (tie.spec operator-requires mark-requires returns)

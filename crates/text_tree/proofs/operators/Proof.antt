@@ -1,19 +1,24 @@
 -- `text_tree::operators` meets its contract. The loop's invariant: what is read from here on with what is kept is what is read from the beginning.
 -- Assumes nothing.
 use Prim.Native.Nat.{suc, _-_, _≤_}
-use mathlib.Core.Path.{_≡_, ap, _∙_, sym}
+use mathlib.Core.Path.{_≡_, refl, ap, _∙_, sym}
 use mathlib.Core.Bool.{cond}
+use native.Mathlib.Omega.{arith}
 use lib.ListN.{length}
 use borrow.Author.Needs.{needs}
 use Rattle.text_tree.specs.Tree.{none}
+use Rattle.text_tree.proofs.Held.{place-low, stored}
 use Rattle.text_tree.proofs.ToEnd.{toEndOf, ends-here, goes-further, item-less, lost-here, to-end-kept, inside}
 use Rattle.text_tree.proofs.operators.Statement.{statement}
 use Rattle.text_tree.proofs.operators.Tie as tie
 use Rattle.text_tree.proofs.operators.Reads as reads
 use Rattle.text_tree.proofs.operators.Lts as lts
 use Rattle.text_scan.proofs.skip.Reads as skip-reads
+use Rattle.text_tree.proofs.chosen.Reads as chosen-reads
+use Rattle.text_tree.proofs.next_count.Reads as next-count-reads
 use Rattle.text_tree.proofs.item.Reads as item-reads
 use Rattle.text_tree.proofs.no_operators.Reads as no-operators-reads
+use Rattle.text_tree.proofs.next_place.Reads as next-place-reads
 
 abbrev Inv-loop : tie.InvT-loop
 Inv-loop s d₀ held₀ d held = (d .at ≤ length s) × (toEndOf s d held ≡ toEndOf s d₀ none)
@@ -49,23 +54,57 @@ returns c =
 item-requires : tie.Need-item-requires Inv-loop μ-loop
 item-requires c κs = c .before .before .before .loop .inv .0
 
--- src/lib.rt:95:5
+-- src/lib.rt:120:13
+next-place-requires : tie.Need-next-place-requires Inv-loop μ-loop
+next-place-requires c κs = search needs
+
+-- src/lib.rt:121:19
+mul-old : tie.Need-mul-old Inv-loop μ-loop
+mul-old c = omega (arith, c .next-place .ensures, place-low (c .before .before .before .before .before .before .loop .held .count))
+
+-- src/lib.rt:121:19
+element-copy-out-old : tie.Need-element-copy-out-old Inv-loop μ-loop
+element-copy-out-old c = omega (arith, c .next-place .ensures, place-low (c .before .before .before .before .before .before .loop .held .count))
+
+-- src/lib.rt:122:13
+chosen-requires : tie.Need-chosen-requires Inv-loop μ-loop
+chosen-requires c κs = search needs
+
+-- src/lib.rt:123:9
+mul-o : tie.Need-mul-o Inv-loop μ-loop
+mul-o c = omega (arith, c .before .before .next-place .ensures, place-low (c .before .before .before .before .before .before .before .before .loop .held .count))
+
+-- src/lib.rt:123:9
+element-set-from-o : tie.Need-element-set-from-o Inv-loop μ-loop
+element-set-from-o c = omega (arith, c .before .before .next-place .ensures, place-low (c .before .before .before .before .before .before .before .before .loop .held .count))
+
+-- src/lib.rt:124:22
+next-count-requires : tie.Need-next-count-requires Inv-loop μ-loop
+next-count-requires c κs = search needs
+
+-- src/lib.rt:108:5
 loop-less : tie.Need-loop-less Inv-loop μ-loop
 loop-less c =
-    let f = c .before in
+    let f = c .before .before .before .before .before in
     let l = f .before .before .before .before in
-    item-less (l .before .before .before .args .s .now) (l .loop .d) (l .loop .held) (f .item .result) (f .item .ensures) (f .before .before .before .loop-test .taken)
+    item-less (l .before .before .before .args .s .now) (l .loop .d) (f .item .result) (f .item .ensures) (f .before .before .before .loop-test .taken)
 
--- src/lib.rt:95:5
+-- src/lib.rt:108:5
 loop-again : tie.Need-loop-again Inv-loop μ-loop
 loop-again c =
-    let f = c .before in
+    let o = c .before in
+    let p = o .before .before in
+    let f = p .before .before in
     let i = f .before in
     let k = i .before in
     let l = k .before .before in
-    let s = l .before .before .before .args .s .now in (
+    let h = l .loop .held in
+    let s = l .before .before .before .args .s .now in
+    let new = f .item .result .op in
+    let kept = stored h (p .next-place .result) (c .next-count .result) _ _ new (o .chosen .result) (p .next-place .ensures) refl (o .chosen .ensures) (c .next-count .ensures) in (
       f .item .ensures .within,
-      sym (goes-further s (l .loop .d) (l .loop .held) (k .before .loop-test .taken) (k .skip .result) (k .skip .ensures .1)
+      ap (toEndOf s (record { ok = f .item .result .ok; at = f .item .result .at; value = 0 })) kept
+          ∙ sym (goes-further s (l .loop .d) h (k .before .loop-test .taken) (k .skip .result) (k .skip .ensures .1)
           (inside (k .skip .result) (length s) (k .skip .ensures .0) (i .if1 .left)) (f .item .result) (f .item .ensures))
           ∙ l .loop .inv .1,
     )
@@ -91,6 +130,13 @@ operators-spec =
     skip-requires
     returns
     item-requires
+    next-place-requires
+    mul-old
+    element-copy-out-old
+    chosen-requires
+    mul-o
+    element-set-from-o
+    next-count-requires
     loop-less
     loop-again
     returns-2)

@@ -10,7 +10,7 @@ use Rattle.base_lists.specs.Lists.{all}
 use Rattle.base_lists.proofs.Tests.{all-more, all-stop}
 use Rattle.sheet_step.specs.Step.{noStep, stepPlaces}
 use Rattle.sheet_operator.specs.Memory.{stepsIn}
-use Rattle.sheet_judge.proofs.Loops.{all-end}
+use Rattle.sheet_operator.proofs.InTurn.{all-end}
 use Rattle.sheet_judge.proofs.steps.steps_places_good.Statement.{statement}
 use Rattle.sheet_judge.proofs.steps.steps_places_good.Tie as tie
 
