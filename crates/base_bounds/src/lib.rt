@@ -1,4 +1,5 @@
 // The paper's bounds, each once: what stands elsewhere is set from these.
+#![tactic(auto)]
 
 // The fields of an item.
 pub const FIELDS: u8 = 4;

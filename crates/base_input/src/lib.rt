@@ -1,11 +1,12 @@
 // Standard input, read into lent bytes.
+#![tactic(auto)]
 ghost use Rattle.std.specs.Prelude.{◌+◌, ◌≤◌, ◌<◌, ◌≡◌, length};
 
 // The most bytes that one read asks for, so that a long input takes several.
 const PIECE: usize = 16384;
 
 // Where the bytes that were read end, how many of them the last read added, and whether it failed.
-#[derive(Drop)]
+#[derive(Clone, Copy)]
 pub struct Filled {
     pub end: usize,
     pub added: usize,

@@ -1,1 +1,2 @@
 // No code: the lists that the specifications are made of, and their laws.
+#![tactic(auto)]

@@ -1,4 +1,5 @@
 // bench: the report on a sheet, its feeds and its firings, read from standard input.
+#![tactic(auto)]
 
 // One byte more than a bench input may have, so that a longer one is seen.
 const SEEN: usize = bench_trial::INPUT + 1;

@@ -1,4 +1,5 @@
 // The records of a `bench` input after its sheet: feeds, and then firings. Here they are looked at; nothing is fed or fired.
+#![tactic(auto)]
 ghost use Rattle.std.specs.Prelude.{◌≡◌, true, ◌+◌, ◌≤◌, length, drop};
 ghost use Rattle.sheet.specs.Answer.{accepted};
 ghost use Rattle.sheet.specs.Check.{check_of};
@@ -25,7 +26,7 @@ const FIRING_BODY: usize = 1;
 pub const FIRING_BYTES: usize = sheet_format::HEADER + FIRING_BODY;
 
 // How the feeds end: the refusal, 0 for none, and its record; else the number of the next record and where it starts.
-#[derive(Drop)]
+#[derive(Clone, Copy)]
 pub struct Looked {
     pub number: u8,
     pub spot: usize,
@@ -33,7 +34,7 @@ pub struct Looked {
 }
 
 // How the firings end: the refusal, 0 for none, and its record; else how many stand in the list.
-#[derive(Drop)]
+#[derive(Clone, Copy)]
 pub struct Listed {
     pub number: u8,
     pub spot: usize,

@@ -1,4 +1,5 @@
 // What `bench` prints of one input, as a function from its bytes to a lent buffer.
+#![tactic(auto)]
 ghost use Rattle.std.specs.Prelude.{◌+◌, ◌*◌, ◌≤◌, ◌<◌, ◌≡◌, length};
 ghost use Rattle.sheet.specs.Sheet.{view_sheet};
 ghost use Rattle.base_words.specs.Text.{PutsText};
@@ -18,7 +19,7 @@ use sheet::{Answer, Sheet};
 // A buffer of this length is always enough.
 pub const TEXT: usize = 131072;
 
-#[derive(Drop)]
+#[derive(Clone, Copy)]
 pub struct Printed {
     pub answer: Answer,
     pub size: usize,

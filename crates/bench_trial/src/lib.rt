@@ -1,4 +1,5 @@
 // One input of `bench`: a sheet, then feeds, then firings; what it comes to. A refused input leaves the lent store as it was.
+#![tactic(auto)]
 ghost use Rattle.std.specs.Prelude.{◌≡◌, true, length, drop};
 ghost use Rattle.sheet.specs.Sheet.{view_sheet, memory_sheet};
 ghost use Rattle.run_store.specs.Store.{STORE};
@@ -20,7 +21,7 @@ pub const INPUT: usize = base_bounds::INPUT_BYTES;
 const LIST: usize = INPUT / bench_records::FIRING_BYTES + 1;
 
 // What an input comes to: its refusal, 0 for none, and the record; else the counts, the rest, and the sheet with its state.
-#[derive(Drop)]
+#[derive(Clone, Copy)]
 pub struct Tried {
     pub number: u8,
     pub spot: usize,

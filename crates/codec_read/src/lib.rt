@@ -1,4 +1,5 @@
 // Sheets from bytes.
+#![tactic(auto)]
 ghost use Rattle.std.specs.Prelude.{◌≡◌, false, ◌≤◌, length};
 ghost use Rattle.base_bounds.specs.Bounds.{OPERATORS};
 ghost use Rattle.sheet_decode.specs.Takes.{head_taken};
@@ -9,7 +10,7 @@ use sheet::{Answer, Sheet};
 use sheet_decode::Head;
 
 // The head and N operators that were read, where they end, and whether every queue is defined.
-#[derive(Drop)]
+#[derive(Clone, Copy)]
 pub struct Front {
     pub answer: Answer,
     pub sheet: Sheet,
@@ -17,7 +18,7 @@ pub struct Front {
     pub whole: bool,
 }
 
-#[derive(Drop)]
+#[derive(Clone, Copy)]
 pub struct ReadSheet {
     pub answer: Answer,
     pub sheet: Sheet,

@@ -1,4 +1,5 @@
 // Sheets to bytes.
+#![tactic(auto)]
 ghost use Rattle.std.specs.Prelude.{◌≡◌, ◌≤◌, length};
 ghost use Rattle.std.proofs.lemmas.List.Edits.{sets};
 ghost use Rattle.sheet.specs.Answer.{accepted};
@@ -9,7 +10,7 @@ ghost use Rattle.codec_write.specs.Write.{sheet_bytes, Writes};
 use sheet::{Answer, Sheet};
 
 // What writing answered, and how many bytes it wrote.
-#[derive(Drop)]
+#[derive(Clone, Copy)]
 pub struct Written {
     pub answer: Answer,
     pub size: usize,

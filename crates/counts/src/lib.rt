@@ -1,4 +1,5 @@
 // The calm test and the worst counts, on any sheet in memory.
+#![tactic(auto)]
 ghost use Rattle.std.specs.Prelude.{◌≡◌, cond, map, ℕ, ◌≤◌, ◌^◌, ltb, leb, eqb, get_or, set, replicate};
 ghost use Rattle.base_lists.specs.Lists.{sum};
 ghost use Rattle.sheet_operator.specs.Memory.{PLACES, view, ways, Ready};
@@ -17,13 +18,13 @@ pub const QUEUES: usize = base_bounds::QUEUES as usize;
 
 pub const ROOM: u64 = base_bounds::ROOM as u64;
 
-#[derive(Drop)]
+#[derive(Clone, Copy)]
 pub struct Calmness {
     pub answer: Answer,
     pub calm: bool,
 }
 
-#[derive(Drop)]
+#[derive(Clone, Copy)]
 pub struct Counts {
     pub answer: Answer,
     pub counts: [u64; QUEUES],

@@ -1,11 +1,12 @@
 // One call of the stream: made by what it may change, answered, and what is held afterwards.
+#![tactic(auto)]
 ghost use Rattle.std.specs.Prelude.{◌<◌, length};
 
 use replay_held::Holding;
 use run_machine::State;
 use sheet::Sheet;
 
-#[derive(Drop)]
+#[derive(Clone, Copy)]
 pub enum Changes {
     Sheet,
     State,

@@ -1,4 +1,5 @@
 // The calls that read a sheet and write one, 2 and 3 as bytes, 19 and 20 as text, made and printed as the other calls on a sheet.
+#![tactic(auto)]
 ghost use Rattle.std.specs.Prelude.{◌<◌, cond, ◌≡◌, length};
 ghost use Rattle.text_form.specs.Reading.{is_read};
 ghost use Rattle.text_read.specs.Answer.{text_paper};
@@ -13,7 +14,7 @@ const LENT: usize = 4096;
 const BEFORE: u8 = 170;
 
 // A sheet, and how many bytes of text wait.
-#[derive(Drop)]
+#[derive(Clone, Copy)]
 pub struct Sheeted {
     pub sheet: Sheet,
     pub used: usize,

@@ -1,4 +1,5 @@
 // What replay holds between calls: at the start, after a call, and where a call sets one number of it, right or wrong.
+#![tactic(auto)]
 ghost use Rattle.std.specs.Prelude.{◌<◌, cond, ◌≡◌};
 ghost use Rattle.sheet.specs.Answer.{paper, is_accepted};
 ghost use Rattle.run_machine.specs.Calls.{fresh_state};
@@ -62,7 +63,7 @@ pub fn kept(a: Answer, new: Sheet, old: Sheet) -> Sheet
 }
 
 // What is held between calls, and how many bytes of text wait.
-#[derive(Drop)]
+#[derive(Clone, Copy)]
 pub struct Holding {
     pub sheet: Sheet,
     pub state: State,
@@ -70,14 +71,14 @@ pub struct Holding {
 }
 
 // A state, and how many bytes of text wait.
-#[derive(Drop)]
+#[derive(Clone, Copy)]
 pub struct Stated {
     pub state: State,
     pub used: usize,
 }
 
 // The state with one number of it set, or as it was where the body is bad.
-#[derive(Drop)]
+#[derive(Clone, Copy)]
 pub struct Set {
     pub good: bool,
     pub state: State,

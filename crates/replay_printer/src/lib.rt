@@ -1,4 +1,5 @@
 // Text for standard output. It waits in a lent buffer, `used` bytes of it, and is written when that is full.
+#![tactic(auto)]
 ghost use Rattle.std.specs.Prelude.{◌*◌, ◌+◌, ◌<◌, length};
 
 use run_store::Item;

@@ -1,4 +1,5 @@
 // The calls of standard input, one at a time, by way of a lent buffer. A read that fails ends the stream.
+#![tactic(auto)]
 ghost use Rattle.std.specs.Prelude.{◌≤◌, ◌+◌, ◌≡◌, length};
 
 // How many bytes stand before a body, and how many a body has at the most.
@@ -7,14 +8,14 @@ const HEAD: usize = 5;
 const MOST: usize = 40000;
 
 // The bytes of the buffer that were read and are not used yet.
-#[derive(Drop)]
+#[derive(Clone, Copy)]
 pub struct Window {
     pub at: usize,
     pub end: usize,
 }
 
 // What comes next: a call, the middle of one, or nothing.
-#[derive(Drop)]
+#[derive(Clone, Copy)]
 pub enum Found {
     Call,
     Cut,
@@ -22,7 +23,7 @@ pub enum Found {
 }
 
 // The body of the call that was found stands from `at` to `end`, and the window behind it.
-#[derive(Drop)]
+#[derive(Clone, Copy)]
 pub struct Next {
     pub found: Found,
     pub call: u8,

@@ -1,4 +1,5 @@
 // What the rewritings share: their answer, and the line that comes after a line.
+#![tactic(auto)]
 ghost use Rattle.std.specs.Prelude.{◌≡◌};
 ghost use Rattle.sheet_operator.specs.Memory.{view};
 ghost use Rattle.sheet.specs.Answer.{accepted};
@@ -11,7 +12,7 @@ use sheet::{Answer, Sheet};
 use sheet_operator::{Kind, Operator};
 
 // The new sheet; on a refusal the one fixed sheet.
-#[derive(Drop)]
+#[derive(Clone, Copy)]
 pub struct Rewritten {
     pub answer: Answer,
     pub sheet: Sheet,
@@ -55,7 +56,7 @@ pub fn is_line(o: Operator) -> bool
 }
 
 // The refusal's number, 0 for none, and the place of the line.
-#[derive(Drop)]
+#[derive(Clone, Copy)]
 pub struct NextLine {
     pub number: u8,
     pub place: usize,

@@ -10,4 +10,4 @@ use mir.Facts.{to_z-of_z}
 use borrow.Author.Rules.{sfits_of}
 
 pub back : (z : ℤ) → mag z < 2 ^ 31 → to_z w32 (of_z w32 z) ≡ z
-back z h = to_z-of_z (sfits_of h)
+back z h = to_z-of_z {w = w32} (sfits_of h)

@@ -1,4 +1,5 @@
 // What one operator does with the item that it takes, and with the variables. Nothing here knows of queues.
+#![tactic(auto)]
 ghost use Rattle.std.specs.Prelude.{◌≡◌, true, cond, ◌<◌, get_or, set, pos};
 ghost use Rattle.base_bounds.specs.Bounds.{FIELDS, VARIABLES};
 ghost use Rattle.sheet_operator.specs.Memory.{view, steps_in};
@@ -14,7 +15,7 @@ use sheet_step::{Func, Step};
 pub const VARIABLES: usize = base_bounds::VARIABLES as usize;
 
 // An item on its way through a line, and the variables.
-#[derive(Drop)]
+#[derive(Clone, Copy)]
 pub struct Flow {
     pub kept: bool,
     pub item: Item,
@@ -22,7 +23,7 @@ pub struct Flow {
 }
 
 // The queues that a firing puts its item on.
-#[derive(Drop)]
+#[derive(Clone, Copy)]
 pub enum Puts {
     Nowhere,
     One(u8),
@@ -30,7 +31,7 @@ pub enum Puts {
 }
 
 // What a firing does: where it puts which item, and the variables afterwards.
-#[derive(Drop)]
+#[derive(Clone, Copy)]
 pub struct Effect {
     pub puts: Puts,
     pub item: Item,

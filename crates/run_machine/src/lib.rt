@@ -1,4 +1,5 @@
 // The machine in numbers: the state, and one firing from a queue. The runner's calls are made of these.
+#![tactic(auto)]
 ghost use Rattle.std.specs.Prelude.{◌≡◌, true, [], ◌<◌, ltb, leb, length, get_or};
 ghost use Rattle.base_lists.specs.Lists.{all, any};
 ghost use Rattle.sheet_operator.specs.Memory.{view};
@@ -22,26 +23,26 @@ pub const ROOM: u8 = run_store::ROOM as u8;
 pub const STORE: usize = run_store::STORE;
 
 // The number of items in each queue, and the variables. The items lie in the lent store.
-#[derive(Drop)]
+#[derive(Clone, Copy)]
 pub struct State {
     pub counts: [u8; QUEUES],
     pub vars: [i32; VARIABLES],
 }
 
-#[derive(Drop)]
+#[derive(Clone, Copy)]
 pub struct Called {
     pub answer: Answer,
     pub state: State,
 }
 
-#[derive(Drop)]
+#[derive(Clone, Copy)]
 pub struct TakenItem {
     pub answer: Answer,
     pub item: Item,
     pub state: State,
 }
 
-#[derive(Drop)]
+#[derive(Clone, Copy)]
 pub struct RunEnd {
     pub answer: Answer,
     pub fired: usize,
@@ -50,13 +51,13 @@ pub struct RunEnd {
 }
 
 // What firing an operator would do: its refusal, 0 for none, and its effect.
-#[derive(Drop)]
+#[derive(Clone, Copy)]
 pub struct Attempt {
     pub number: u8,
     pub effect: Effect,
 }
 
-#[derive(Drop)]
+#[derive(Clone, Copy)]
 pub struct ReadySet {
     pub answer: Answer,
     pub set: u32,

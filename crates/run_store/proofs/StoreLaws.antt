@@ -6,7 +6,7 @@ use Prim.Native.Nat.{ℕ, zero, suc, ◌+◌, ◌*◌, ◌≤◌, ◌<◌, suc-l
 use native.Mathlib.Nat.{not-suc-le-zero, le_of_suc-le-suc, add-zero, zero-add, zero-lt-suc}
 use native.Mathlib.Omega.{arith}
 use lib.ListN.{length, get_or, set, take, drop, replicate, length-append, replicate-append-replicate}
-use lib.Seq.{take_at, drop_at, drop-append-add, take-append-add}
+use lib.Seq.{take_at as take_at_seq, drop_at, drop-append-add, take-append-add}
 use lib.IntN.{ℤ, pos}
 use Rattle.base_lists.proofs.Pad.{pad_replicate}
 use Rattle.run_store.specs.declared.Item.{Item}
@@ -41,7 +41,7 @@ next q xs = omega (arith, length_queue xs)
 pub part_store : (qs : List (List Item)) (q : ℕ) → q < length qs → part (store_of qs) q ≡ queue_part (get_or qs q [])
 unfolding part store_of
 part_store [] q h = absurd (not-suc-le-zero h)
-part_store (xs ∷ qs) zero h = take_at (queue_part xs) (store_of qs) PART (length_queue xs)
+part_store (xs ∷ qs) zero h = take_at_seq (queue_part xs) (store_of qs) PART (length_queue xs)
 part_store (xs ∷ qs) (suc q) h =
     ap (λ (k : ℕ). take PART (drop k (queue_part xs ++ store_of qs))) (next q xs)
     ∙ ap (take PART) (drop-append-add (queue_part xs) (store_of qs) (PART * q)) ∙ part_store qs q (le_of_suc-le-suc h)

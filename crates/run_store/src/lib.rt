@@ -1,4 +1,5 @@
 // The lent store of items: queue q has the PART numbers from PART * q on, item i of it stands at FIELDS * i there, oldest first, and zeros follow the last.
+#![tactic(auto)]
 ghost use Rattle.std.specs.Prelude.{◌≡◌, ◌+◌, ◌*◌, ◌≤◌, ◌<◌, length, replicate, pos};
 ghost use Rattle.run_store.specs.Store.{PART, STORE, part, pushed, without_oldest, first_of, push_at, take_at};
 ghost use Rattle.base_bounds.specs.Bounds.{ROOM};
@@ -18,7 +19,7 @@ pub const QUEUES: usize = base_bounds::QUEUES as usize;
 // The numbers of the store.
 pub const STORE: usize = QUEUES * PART;
 
-#[derive(Drop)]
+#[derive(Clone, Copy)]
 pub struct Item {
     pub f: [i32; FIELDS],
 }

@@ -1,4 +1,5 @@
 // The runner: fresh, feed, take, fire, run and the ready set, on any sheet, state and store.
+#![tactic(auto)]
 ghost use Rattle.std.specs.Prelude.{◌≡◌};
 ghost use Rattle.std.specs.Int.Count.{ones, count_trailing_zeros};
 ghost use Rattle.run_machine.specs.Ready.{SET};
@@ -128,7 +129,7 @@ pub fn fresh(state: State, store: &mut [i32]) -> Called
 }
 
 // The place of the operator that reads a queue; OPERATORS on a refusal.
-#[derive(Drop)]
+#[derive(Clone, Copy)]
 pub struct Reader {
     pub answer: Answer,
     pub place: usize,

@@ -1,4 +1,5 @@
 // A sheet in memory, and its check.
+#![tactic(auto)]
 ghost use Rattle.std.specs.Prelude.{◌≡◌, true, ◌||◌, ltb};
 ghost use Rattle.sheet_operator.specs.Memory.{vacant};
 ghost use Rattle.sheet_format.specs.Head.{head_good};
@@ -12,7 +13,7 @@ use sheet_operator::Operator;
 
 pub const OPERATORS: usize = base_bounds::OPERATORS as usize;
 
-#[derive(Drop)]
+#[derive(Clone, Copy)]
 pub struct Sheet {
     pub inputs: u8,
     pub queues: u8,
@@ -22,7 +23,7 @@ pub struct Sheet {
 }
 
 // What a call answers: done, or the number of the refusal, for sheets with the record.
-#[derive(Drop)]
+#[derive(Clone, Copy)]
 pub enum Answer {
     Done,
     RefusedAt { number: u8, spot: u8 },
@@ -30,7 +31,7 @@ pub enum Answer {
 }
 
 // The first operator that is refused, with number 0 for none, and what is known of those before it.
-#[derive(Drop)]
+#[derive(Clone, Copy)]
 pub struct Judged {
     pub number: u8,
     pub spot: u8,

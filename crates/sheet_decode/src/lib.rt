@@ -1,4 +1,5 @@
 // The records of a sheet from bytes: the head, and one operator.
+#![tactic(auto)]
 ghost use Rattle.std.specs.Prelude.{◌≡◌, true, ◌+◌, ◌*◌, ◌≤◌, length, drop, get_or};
 ghost use Rattle.base_lists.specs.Lists.{build, pad};
 ghost use Rattle.sheet_step.specs.Step.{STEP_BYTES, step_of, no_step};
@@ -37,7 +38,7 @@ pub const NO_OPERATOR: Operator = Operator {
 };
 
 // An operator's record that was read: its refusal, 0 for none, where the next record starts, and the operator.
-#[derive(Drop)]
+#[derive(Clone, Copy)]
 pub struct TakenRecord {
     pub number: u8,
     pub next: usize,
@@ -45,7 +46,7 @@ pub struct TakenRecord {
 }
 
 // The head that was read: its refusal, 0 for none, and its numbers.
-#[derive(Drop)]
+#[derive(Clone, Copy)]
 pub struct Head {
     pub number: u8,
     pub inputs: u8,

@@ -1,4 +1,5 @@
 // The record format: its sizes; the rest of it is definitions, and laws both ways.
+#![tactic(auto)]
 
 // A record's body length and kind, which stand before its body.
 pub const HEADER: usize = 4;

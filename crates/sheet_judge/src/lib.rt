@@ -1,4 +1,5 @@
 // The judge of one operator after the operators kept before it: refusals 4 to 7.
+#![tactic(auto)]
 mod steps;
 
 ghost use Rattle.std.specs.Prelude.{◌≡◌, true, ◌&&◌, [], ◌≤◌, ltb};
@@ -13,7 +14,7 @@ use sheet_operator::{Kind, Operator};
 use sheet_sets::FLAGS;
 
 // What the operators kept so far define, read and name, and which of the variables are cursors.
-#[derive(Drop)]
+#[derive(Clone, Copy)]
 pub struct Seen {
     pub defined: [bool; FLAGS],
     pub used: [bool; FLAGS],
@@ -22,7 +23,7 @@ pub struct Seen {
 }
 
 // The judge's number, 0 for an operator that is kept, and what is then known.
-#[derive(Drop)]
+#[derive(Clone, Copy)]
 pub struct Admitted {
     pub number: u8,
     pub seen: Seen,

@@ -1,6 +1,7 @@
 -- What owning an operator tells of it: every operator that the program holds, alone or in an array, is `Held`.
 -- Assumes nothing.
-use mathlib.Core.Path.{◌≡◌, refl, sym, ◌∙◌}
+use mathlib.Core.Path.{◌≡◌, refl, sym, ◌∙◌, subst}
+use Rattle.std.proofs.lemmas.List.{map-id}
 use mathlib.Core.List.{List, [], ◌∷◌, map}
 use Prim.Native.Nat.{ℕ, zero, suc, ◌<◌}
 use lib.Dec.{lit<}
@@ -10,7 +11,7 @@ use mir.Val.{Val, SFits}
 use borrow.Author.Rules.{sfits_of}
 use denote.Array.{each}
 use denote.Shadow.{shadow}
-use denote.Struct.Field.{Field, array_field, u8-field}
+use denote.Struct.Field.{Field, array_field, row_field, u8-field}
 use Rattle.base_lists.specs.Lists.{pad}
 use Rattle.base_lists.proofs.Pad.{pad_none}
 use Rattle.base_lists.proofs.Places.{get_d_any}
@@ -44,7 +45,7 @@ record Numbers (t : Step) : Type 0 where
   low : SFits w32 t.low
   high : SFits w32 t.high
 
-numbers : (t : Step) (vs : List Val) → Owned step.the_field t vs → Numbers t
+numbers : (t : Step) (vs : List Val) → Owned (row_field step.the_row) t vs → Numbers t
 numbers t vs o =
     let f = o.1.1.1 in
     record {
@@ -58,15 +59,28 @@ numbers t vs o =
 no_numbers : Numbers no_step
 no_numbers = record { variable = lit< tt; p = lit< tt; r = lit< tt; low = sfits_of (lit< tt); high = sfits_of (lit< tt) }
 
-bytes : (xs : List ℕ) (vs : List Val) → Owned (array_field u8-field PLACES) xs vs → (length xs ≡ PLACES) × ((k : ℕ) → get_or xs k 0 < 256)
-bytes xs vs p = array_at u8-field (λ (x : ℕ). x < 256) 0 (lit< tt) (λ x vs o. o.1) PLACES xs vs p
+abbrev OwnedBytes : List ℕ → List Val → Type 0
+OwnedBytes xs vs = shadow ((array_field u8-field PLACES).row.own_val xs vs)
+
+bytes : (xs : List ℕ) (vs : List Val) → OwnedBytes xs vs → (length xs ≡ PLACES) × ((k : ℕ) → get_or xs k 0 < 256)
+bytes xs vs p =
+    array_at u8-field (λ (x : ℕ). x < 256) 0 (lit< tt) (λ x vs o. o.1) PLACES xs vs
+    (subst (λ (l : List ℕ). OwnedBytes l vs) (sym (map-id xs)) p)
+
+abbrev OwnedSteps : List Step → List Val → Type 0
+OwnedSteps ts vs = shadow ((array_field (row_field step.the_row) PLACES).row.own_val ts vs)
+
+held_steps : (ts : List Step) (vs : List Val) → OwnedSteps ts vs → (length ts ≡ PLACES) × ((k : ℕ) → Numbers (get_or ts k no_step))
+held_steps ts vs p =
+    array_at (row_field step.the_row) Numbers no_step no_numbers numbers PLACES ts vs
+    (subst (λ (l : List Step). OwnedSteps l vs) (sym (map-id ts)) p)
 
 pub held_of : (o : Operator) (vs : List Val) → Owned operator.the_field o vs → Held o
 held_of o vs p =
     let f = p.1.1.1 in
     let ins = bytes o.ins _ f.1.1.1.0 in
     let outs = bytes o.outs _ f.1.1.1.1.0 in
-    let steps = array_at step.the_field Numbers no_step no_numbers numbers PLACES o.steps _ f.1.1.1.1.1.0 in
+    let steps = held_steps o.steps _ f.1.1.1.1.1.0 in
     record {
       ins_full = ins.0;
       outs_full = outs.0;

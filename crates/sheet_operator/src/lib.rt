@@ -1,4 +1,5 @@
 // One operator of a sheet in memory: flat places, 0 in those that its kind or count does not use.
+#![tactic(auto)]
 ghost use Rattle.std.specs.Prelude.{◌≡◌, ◌||◌, eqb, ltb};
 ghost use Rattle.sheet_step.specs.Step.{blank};
 ghost use Rattle.sheet_operator.specs.Memory.{shape_of, zeros_from, blanks_from, tidy, is_empty, memory_number, vacant};
@@ -11,7 +12,7 @@ pub const PLACES: usize = 4;
 // The same as a count.
 const MOST: u8 = PLACES as u8;
 
-#[derive(Drop)]
+#[derive(Clone, Copy)]
 pub enum Kind {
     Empty,
     Line,
@@ -22,7 +23,7 @@ pub enum Kind {
 }
 
 // `count` is a line's number of steps, or the ways of a deal or a gather; a place that the kind or the count does not use is 0.
-#[derive(Drop)]
+#[derive(Clone, Copy)]
 pub struct Operator {
     pub kind: Kind,
     pub count: u8,
@@ -34,7 +35,7 @@ pub struct Operator {
 }
 
 // What a kind uses of its places.
-#[derive(Drop)]
+#[derive(Clone, Copy)]
 pub struct Shape {
     pub least: u8,
     pub most: u8,

@@ -1,4 +1,5 @@
 // A step of a line: its table, its judge, its twelve bytes.
+#![tactic(auto)]
 ghost use Rattle.std.specs.Prelude.{◌≡◌, ◌+◌, ◌≤◌, length, drop};
 ghost use Rattle.std.proofs.lemmas.List.Edits.{sets};
 ghost use Rattle.sheet_step.specs.Step.{code_of, func_of, row_of, known_func, step_variable, unused_z, field_place, step_places, blank, STEP_BYTES, step_bytes};
@@ -8,7 +9,7 @@ pub const NO_VARIABLE: u8 = 255;
 
 pub const STEP_BYTES: usize = 12;
 
-#[derive(Drop)]
+#[derive(Clone, Copy)]
 pub enum Func {
     None,
     Keep,
@@ -18,7 +19,7 @@ pub enum Func {
     Stamp,
 }
 
-#[derive(Drop)]
+#[derive(Clone, Copy)]
 pub struct Step {
     pub func: Func,
     pub variable: u8,
@@ -29,7 +30,7 @@ pub struct Step {
 }
 
 // What a function takes (p always), and which of the fields p (1) and r (2) it reads and writes.
-#[derive(Drop)]
+#[derive(Clone, Copy)]
 pub struct Row {
     pub arity: u8,
     pub variable: bool,

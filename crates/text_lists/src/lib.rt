@@ -1,4 +1,5 @@
 // A list of names from text, of any length: what the program keeps of it.
+#![tactic(auto)]
 ghost use Rattle.std.specs.Prelude.{◌≡◌, ◌≤◌, length};
 ghost use Rattle.text_scan.specs.Reader.{repeat};
 ghost use Rattle.text_grammar.specs.Readers.{name_turn, names};
@@ -12,14 +13,14 @@ pub const NAMES: usize = QUEUES as usize;
 const SEMICOLON: u32 = b';' as u32;
 
 // The first names of a list, in their places, and how many there are; one past the places stands for any more.
-#[derive(Drop)]
+#[derive(Clone, Copy)]
 pub struct KeptNames {
     pub count: u8,
     pub queues: [u8; NAMES],
 }
 
 // One name read, and whether it was the last.
-#[derive(Drop)]
+#[derive(Clone, Copy)]
 pub struct TurnFound {
     pub ok: bool,
     pub at: usize,
@@ -28,7 +29,7 @@ pub struct TurnFound {
 }
 
 // A list, where it begins, and where reading stands after it.
-#[derive(Drop)]
+#[derive(Clone, Copy)]
 pub struct NamesFound {
     pub ok: bool,
     pub at: usize,

@@ -1,4 +1,5 @@
 // The place of a byte of an input as a line and a column, and the line of a refusal at a byte.
+#![tactic(auto)]
 ghost use Rattle.std.specs.Prelude.{◌+◌, ◌≤◌, ◌≡◌, ◌++◌, length};
 ghost use Rattle.base_bounds.specs.Bounds.{INPUT_BYTES};
 ghost use Rattle.base_words.specs.Text.{natural};
@@ -7,7 +8,7 @@ ghost use Rattle.text_places.specs.Places.{past_byte, place_after, place_of, out
 ghost use Rattle.text_places.specs.Put.{NATURAL_TEXT, OUTSIDE_TEXT, placed};
 
 // A line and a column, from 1.
-#[derive(Drop)]
+#[derive(Clone, Copy)]
 struct Place {
     line: usize,
     column: usize,

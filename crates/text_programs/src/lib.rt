@@ -1,4 +1,5 @@
 // What `to_text` and `to_bytes` put out of one input, as functions from its bytes to a lent buffer.
+#![tactic(auto)]
 ghost use Rattle.std.specs.Prelude.{◌≤◌, ◌≡◌, length};
 ghost use Rattle.base_bounds.specs.Bounds.{INPUT_BYTES};
 ghost use Rattle.bench_lines.specs.Lines.{refusal_line};
@@ -23,7 +24,7 @@ pub const SEEN: usize = INPUT + 1;
 pub const OUTPUT: usize = text_print::SHEET_TEXT + 1;
 
 // How many bytes at the buffer's front are put out, and whether to standard error.
-#[derive(Drop)]
+#[derive(Clone, Copy)]
 pub struct Sent {
     pub size: usize,
     pub failed: bool,

@@ -1,4 +1,5 @@
 // A sheet from text.
+#![tactic(auto)]
 ghost use Rattle.std.specs.Prelude.{◌≡◌};
 ghost use Rattle.sheet.specs.Answer.{accepted};
 ghost use Rattle.sheet.specs.Sheet.{no_sheet};
@@ -10,7 +11,7 @@ use text_scan::Cursor;
 use text_tree::HeadFound;
 
 // What reading a text answers: done, a sheet's refusal, or 19 at the byte from which on the text is not the sheet's.
-#[derive(Drop)]
+#[derive(Clone, Copy)]
 pub enum TextAnswer {
     Done,
     RefusedAt { number: u8, spot: u8 },
@@ -18,7 +19,7 @@ pub enum TextAnswer {
     Outside { at: usize },
 }
 
-#[derive(Drop)]
+#[derive(Clone, Copy)]
 pub struct ReadText {
     pub answer: TextAnswer,
     pub sheet: Sheet,

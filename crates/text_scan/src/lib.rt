@@ -1,11 +1,12 @@
 // Reading a text from its front. A cursor that is lost stays where it is, so readers are called one after the other without a test.
+#![tactic(auto)]
 ghost use Rattle.std.specs.Prelude.{◌≡◌, ◌+◌, ◌-◌, ◌≤◌, ◌<◌, [], ◌∷◌, length, drop};
 ghost use Rattle.base_lists.specs.Lists.{member};
 ghost use Rattle.text_scan.specs.Reader.{is_blank, here, sign, spell, digits, is_digit, goes_on};
 ghost use Rattle.text_scan.specs.Cursor.{after_blanks, stands, Goes};
 
 // Where reading stands, and what was read last; or that it is lost there.
-#[derive(Drop)]
+#[derive(Clone, Copy)]
 pub struct Cursor {
     pub ok: bool,
     pub at: usize,

@@ -1,4 +1,5 @@
 // A line's steps from text, one reader after the other.
+#![tactic(auto)]
 ghost use Rattle.std.specs.Prelude.{◌≡◌, [], ◌≤◌, length};
 ghost use Rattle.base_words.specs.Text.{word};
 ghost use Rattle.text_scan.specs.Reader.{sign};
@@ -22,7 +23,7 @@ const OF_COPY_OR_COUNT: u32 = b'C' as u32;
 const OF_COPY: u32 = b'p' as u32;
 
 // A step, and where reading stands after it.
-#[derive(Drop)]
+#[derive(Clone, Copy)]
 pub struct StepFound {
     pub ok: bool,
     pub at: usize,
@@ -30,13 +31,13 @@ pub struct StepFound {
 }
 
 // The steps read so far, in their places.
-#[derive(Drop)]
+#[derive(Clone, Copy)]
 pub struct HeldSteps {
     pub count: u8,
     pub steps: [Step; PLACES],
 }
 
-#[derive(Drop)]
+#[derive(Clone, Copy)]
 pub struct StepsFound {
     pub ok: bool,
     pub at: usize,

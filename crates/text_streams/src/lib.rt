@@ -1,4 +1,5 @@
 // What `to_text` and `to_bytes` do with the streams: the input into lent bytes, and what they put out to one of the two outputs.
+#![tactic(auto)]
 ghost use Rattle.std.specs.Prelude.{◌<◌, ◌≤◌, ◌≡◌, length};
 
 use base_input::Filled;

@@ -1,4 +1,5 @@
 // A text's head and its operators, up to the text's end: what the program keeps of them.
+#![tactic(auto)]
 ghost use Rattle.std.specs.Prelude.{◌≡◌, cond, ◌≤◌, length, leb};
 ghost use Rattle.base_bounds.specs.Bounds.{OPERATORS};
 ghost use Rattle.text_grammar.specs.Readers.{head};
@@ -13,13 +14,13 @@ use text_ways::Found;
 pub const HELD: usize = OPERATORS as usize;
 
 // The first operators, in their places, and how many there are; one past the places stands for any more.
-#[derive(Drop)]
+#[derive(Clone, Copy)]
 pub struct HeldOperators {
     pub count: u8,
     pub operators: [Operator; HELD],
 }
 
-#[derive(Drop)]
+#[derive(Clone, Copy)]
 pub struct OperatorsFound {
     pub ok: bool,
     pub at: usize,
@@ -27,7 +28,7 @@ pub struct OperatorsFound {
 }
 
 // The lists of the head, where each begins, the variables, and where reading stands after it.
-#[derive(Drop)]
+#[derive(Clone, Copy)]
 pub struct HeadFound {
     pub ok: bool,
     pub at: usize,

@@ -1,4 +1,5 @@
 // The operators with ways, a deal and a gather, from text, one reader after the other.
+#![tactic(auto)]
 ghost use Rattle.std.specs.Prelude.{◌≡◌, [], ◌∷◌, ◌≤◌, length};
 ghost use Rattle.base_words.specs.Text.{word};
 ghost use Rattle.sheet_operator.specs.Op.{deal, gather};
@@ -15,7 +16,7 @@ use text_scan::Cursor;
 pub const QUEUE: u32 = b'q' as u32;
 
 // An operator, and where reading stands after it.
-#[derive(Drop)]
+#[derive(Clone, Copy)]
 pub struct Found {
     pub ok: bool,
     pub at: usize,
@@ -23,13 +24,13 @@ pub struct Found {
 }
 
 // The ways of a deal or a gather, in their places.
-#[derive(Drop)]
+#[derive(Clone, Copy)]
 pub struct HeldWays {
     pub count: u8,
     pub queues: [u8; PLACES],
 }
 
-#[derive(Drop)]
+#[derive(Clone, Copy)]
 pub struct WaysFound {
     pub ok: bool,
     pub at: usize,

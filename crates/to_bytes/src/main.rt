@@ -1,4 +1,5 @@
 // to_bytes: the bytes of a sheet, read as text from standard input.
+#![tactic(auto)]
 
 fn main() {
     let mut input = [0u8; text_programs::SEEN];

@@ -1,4 +1,5 @@
 // to_text: the text of a sheet, read as bytes from standard input.
+#![tactic(auto)]
 
 fn main() {
     let mut input = [0u8; text_programs::SEEN];
