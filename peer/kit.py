@@ -2,7 +2,6 @@
 import importlib.machinery
 import importlib.util
 import os
-import platform
 import subprocess
 import sys
 
@@ -12,25 +11,16 @@ sys.dont_write_bytecode = True
 
 
 def tools():
-    """The folder of the kit's compiler, loader and C library on this machine."""
+    """The folder of the kit's compiler and C library."""
     guide = subprocess.run(["rt", "doc"], stdout=subprocess.PIPE, check=True, text=True).stdout.strip()
-    kit = os.path.dirname(os.path.dirname(guide))
-    return os.path.join(kit, "on", platform.machine(), "toolchain")
-
-
-def command(path):
-    """The words that run a program for x86-64, as ./flassanya does."""
-    t = tools()
-    words = [os.path.join(t, "lib", "ld-linux-x86-64.so.2"), "--library-path", os.path.join(t, "lib"), path]
-    emulator = os.path.join(t, "bin", "qemu-x86_64")
-    return ([emulator] if os.path.exists(emulator) else []) + words
+    return os.path.join(os.path.dirname(guide), "toolchain")
 
 
 def program(name):
     """A program of the project, proved and built; it may not read what is ours."""
     subprocess.run([os.path.join(ROOT, "flassanya"), name], stdin=subprocess.DEVNULL,
                    stdout=subprocess.DEVNULL, check=True)
-    return command(os.path.join(ROOT, "target", "bin", name))
+    return [os.path.join(ROOT, "crates", name, "out", name)]
 
 
 def peer():

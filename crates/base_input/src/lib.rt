@@ -1,6 +1,9 @@
 // Standard input, read into lent bytes.
 #![tactic(auto)]
+
 ghost use Rattle.std.specs.Prelude.{◌+◌, ◌≤◌, ◌<◌, ◌≡◌, length};
+
+use std::io::{Read, Stdin};
 
 // The most bytes that one read asks for, so that a long input takes several.
 const PIECE: usize = 16384;
@@ -25,36 +28,35 @@ fn piece_end(end: usize, size: usize) -> usize
 }
 
 // Reads on behind the first `end` bytes, once. Where the input has ended, nothing is added.
-pub fn more(s: &mut [u8], end: usize) -> Filled
+pub fn more(stdin: Stdin, s: &mut [u8], end: usize) -> Filled
     requires { end ≤ length s.old }
     ensures { (result.end ≡ end + result.added) × (result.end ≤ length s.new) }
 {
     let to = piece_end(end, s.len());
-    let got = libc::read(0, &mut s[end..to]);
-    if got < 0 {
-        return Filled {
+    let mut input = stdin;
+    match input.read(&mut s[end..to]) {
+        Ok(added) => Filled {
+            end: end + added,
+            added,
+            failed: false,
+        },
+        Err(_) => Filled {
             end,
             added: 0,
             failed: true,
-        };
-    }
-    let added = io::count(got, &s[end..to]);
-    Filled {
-        end: end + added,
-        added,
-        failed: false,
+        },
     }
 }
 
 // Reads on behind the first `from` bytes until n bytes are there, or a read adds nothing: the input has ended, or the read failed.
-pub fn fill(s: &mut [u8], from: usize, n: usize) -> Filled
+pub fn fill(stdin: Stdin, s: &mut [u8], from: usize, n: usize) -> Filled
     requires { from ≤ length s.old }
     ensures { (result.end ≤ length s.new) × (result.end < n → result.added ≡ 0) }
 {
     let mut end = from;
     let mut added = 0;
     while end < n {
-        let m = more(&mut *s, end);
+        let m = more(stdin, &mut *s, end);
         added = m.added;
         if added == 0 {
             return m;

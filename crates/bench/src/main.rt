@@ -1,6 +1,8 @@
 // bench: the report on a sheet, its feeds and its firings, read from standard input.
 #![tactic(auto)]
 
+use std::io::Stdin;
+
 // One byte more than a bench input may have, so that a longer one is seen.
 const SEEN: usize = bench_trial::INPUT + 1;
 
@@ -12,8 +14,8 @@ fn print(text: &[u8], n: usize) {
     io::write_all(1, &text[..n]);
 }
 
-fn bench(input: &mut [u8], text: &mut [u8]) {
-    let f = base_input::fill(&mut *input, 0, SEEN);
+fn bench(stdin: Stdin, input: &mut [u8], text: &mut [u8]) {
+    let f = base_input::fill(stdin, &mut *input, 0, SEEN);
     if f.failed {
         io::write_all(1, b"cannot read\n");
         return;
@@ -23,8 +25,8 @@ fn bench(input: &mut [u8], text: &mut [u8]) {
     print(&*text, p.size);
 }
 
-fn main() {
+fn main(rt: HostRuntime) {
     let mut input = [0u8; SEEN];
     let mut text = [0u8; bench_report::TEXT];
-    bench(&mut input, &mut text);
+    bench(rt.stdin(), &mut input, &mut text);
 }

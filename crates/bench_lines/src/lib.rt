@@ -1,5 +1,6 @@
 // The lines that `bench` prints, into lent bytes. Each function answers the place after what it put.
 #![tactic(auto)]
+
 ghost use Rattle.std.specs.Prelude.{◌+◌, ◌*◌, ◌≤◌, ◌≡◌, ◌++◌, length, take};
 ghost use Rattle.base_lists.specs.Lists.{chain};
 ghost use Rattle.base_words.specs.Text.{word, PutsText};

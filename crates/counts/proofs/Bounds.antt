@@ -4,7 +4,7 @@ use mathlib.Core.Path.{◌≡◌}
 use mathlib.Core.Logic.{⊎_elim}
 use mathlib.Core.List.{List, [], ◌∷◌, map}
 use Prim.Native.Nat.{ℕ, zero, suc, ◌+◌, ◌*◌, ◌/◌, ◌<◌, ◌≤◌, ◌^◌}
-use native.Mathlib.Nat.{div-eq_of_lt, div-le_of_le-mul, mul_suc, le_trans, mul-le-mul_right}
+use native.Mathlib.Nat.{div-eq_of_lt, div-le_of_le-mul, mul-suc, le_trans, mul-le-mul_right}
 use native.Mathlib.Omega.{arith}
 use lib.ListN.{length, get_or, set}
 use lib.Seq.{get_or-set_same, get_or-set_other, set_out}
@@ -32,7 +32,7 @@ within_set b w p n h l q =
 
 -- no output of a deal gets more than there is
 deal_some : (m k : ℕ) → (suc m + k) / suc k ≤ suc m
-deal_some m k = div-le_of_le-mul (suc k) (omega (arith, mul_suc (suc k) m))
+deal_some m k = div-le_of_le-mul (suc k) (omega (arith, mul-suc (suc k) m))
 
 pub deal_within : (n k j : ℕ) → deal_worst n k j ≤ n
 deal_within n zero j = omega arith

@@ -1,5 +1,6 @@
 // The calm test and the worst counts, on any sheet in memory.
 #![tactic(auto)]
+
 ghost use Rattle.std.specs.Prelude.{◌≡◌, cond, map, ℕ, ◌≤◌, ◌^◌, ltb, leb, eqb, get_or, set, replicate};
 ghost use Rattle.base_lists.specs.Lists.{sum};
 ghost use Rattle.sheet_operator.specs.Memory.{PLACES, view, ways, Ready};

@@ -3,6 +3,7 @@
 ghost use Rattle.std.specs.Prelude.{◌<◌, length};
 
 use replay_stream::{Found, Window};
+use std::io::Stdin;
 
 // How many bytes of the stream and of the answers wait at the most.
 const INPUT: usize = 65536;
@@ -17,7 +18,7 @@ fn end_cut(out: &mut [u8], used: usize)
 }
 
 // The whole stream. Nothing says that it ends, so the turns are counted down from a number that no run uses up.
-fn serve(input: &mut [u8], store: &mut [i32], text: &mut [u8], out: &mut [u8])
+fn serve(stdin: Stdin, input: &mut [u8], store: &mut [i32], text: &mut [u8], out: &mut [u8])
     requires { 0 < length out.old }
 {
     let mut held = replay_held::first();
@@ -25,7 +26,7 @@ fn serve(input: &mut [u8], store: &mut [i32], text: &mut [u8], out: &mut [u8])
     let mut turns = u64::MAX;
     while 0 < turns {
         turns -= 1;
-        let n = replay_stream::next_call(&mut *input, w);
+        let n = replay_stream::next_call(stdin, &mut *input, w);
         let behind = n.window;
         w = behind;
         let at = n.at;
@@ -55,10 +56,10 @@ fn serve(input: &mut [u8], store: &mut [i32], text: &mut [u8], out: &mut [u8])
     }
 }
 
-fn main() {
+fn main(rt: HostRuntime) {
     let mut input = [0u8; INPUT];
     let mut store = [0i32; run_machine::STORE];
     let mut text = [0u8; bench_report::TEXT];
     let mut out = [0u8; OUTPUT];
-    serve(&mut input, &mut store, &mut text, &mut out);
+    serve(rt.stdin(), &mut input, &mut store, &mut text, &mut out);
 }

@@ -1,6 +1,9 @@
 // The calls of standard input, one at a time, by way of a lent buffer. A read that fails ends the stream.
 #![tactic(auto)]
+
 ghost use Rattle.std.specs.Prelude.{◌≤◌, ◌+◌, ◌≡◌, length};
+
+use std::io::Stdin;
 
 // How many bytes stand before a body, and how many a body has at the most.
 const HEAD: usize = 5;
@@ -48,7 +51,7 @@ fn to_front(input: &mut [u8], w: Window) -> usize
 }
 
 // A window of n bytes or more, or of all that the input still has.
-fn ready(input: &mut [u8], w: Window, n: usize) -> Window
+fn ready(stdin: Stdin, input: &mut [u8], w: Window, n: usize) -> Window
     requires { (w.at ≤ w.end) × (w.end ≤ length input.old) }
     ensures { (result.at ≤ result.end) × (result.end ≤ length input.new) }
 {
@@ -56,7 +59,7 @@ fn ready(input: &mut [u8], w: Window, n: usize) -> Window
         return w;
     }
     let from = to_front(&mut *input, w);
-    let f = base_input::fill(&mut *input, from, n);
+    let f = base_input::fill(stdin, &mut *input, from, n);
     Window { at: 0, end: f.end }
 }
 
@@ -74,13 +77,13 @@ fn no_call(found: Found, at: usize, end: usize) -> Next
 }
 
 // Passes over n bytes that were not read yet.
-fn pass_over(input: &mut [u8], n: usize) -> Next
-    ensures at_le_end { (result.at ≤ result.end) × (result.end ≤ length input.new) }
-    ensures at_le_end_2 { (result.window.at ≤ result.window.end) × (result.window.end ≤ length input.new) }
+fn pass_over(stdin: Stdin, input: &mut [u8], n: usize) -> Next
+    ensures body { (result.at ≤ result.end) × (result.end ≤ length input.new) }
+    ensures window { (result.window.at ≤ result.window.end) × (result.window.end ≤ length input.new) }
 {
     let mut left = n;
     while 0 < left {
-        let m = base_input::more(&mut *input, 0);
+        let m = base_input::more(stdin, &mut *input, 0);
         let end = m.end;
         if end == 0 {
             return no_call(Found::Cut, 0, 0);
@@ -94,25 +97,25 @@ fn pass_over(input: &mut [u8], n: usize) -> Next
 }
 
 // A call whose body of n bytes is too long: its bytes are passed over.
-fn too_long(input: &mut [u8], w: Window, n: usize) -> Next
+fn too_long(stdin: Stdin, input: &mut [u8], w: Window, n: usize) -> Next
     requires { (w.at ≤ w.end) × (w.end ≤ length input.old) }
-    ensures at_le_end { (result.at ≤ result.end) × (result.end ≤ length input.new) }
-    ensures at_le_end_2 { (result.window.at ≤ result.window.end) × (result.window.end ≤ length input.new) }
+    ensures body { (result.at ≤ result.end) × (result.end ≤ length input.new) }
+    ensures window { (result.window.at ≤ result.window.end) × (result.window.end ≤ length input.new) }
 {
     let there = w.end - w.at;
     if n <= there {
         return no_call(Found::Call, w.at + n, w.end);
     }
-    pass_over(&mut *input, n - there)
+    pass_over(stdin, &mut *input, n - there)
 }
 
 // A call whose body of n bytes begins at the window.
-fn whole(input: &mut [u8], before: Window, call: u8, n: usize) -> Next
+fn whole(stdin: Stdin, input: &mut [u8], before: Window, call: u8, n: usize) -> Next
     requires { (before.at ≤ before.end) × (before.end ≤ length input.old) }
-    ensures at_le_end { (result.at ≤ result.end) × (result.end ≤ length input.new) }
-    ensures at_le_end_2 { (result.window.at ≤ result.window.end) × (result.window.end ≤ length input.new) }
+    ensures body { (result.at ≤ result.end) × (result.end ≤ length input.new) }
+    ensures window { (result.window.at ≤ result.window.end) × (result.window.end ≤ length input.new) }
 {
-    let w = ready(&mut *input, before, n);
+    let w = ready(stdin, &mut *input, before, n);
     let at = w.at;
     if w.end - at < n {
         return no_call(Found::Cut, 0, 0);
@@ -137,12 +140,12 @@ fn length_at(input: &[u8], at: usize) -> usize
 }
 
 // The next call of the stream.
-pub fn next_call(input: &mut [u8], before: Window) -> Next
+pub fn next_call(stdin: Stdin, input: &mut [u8], before: Window) -> Next
     requires { (before.at ≤ before.end) × (before.end ≤ length input.old) }
-    ensures at_le_end { (result.at ≤ result.end) × (result.end ≤ length input.new) }
-    ensures at_le_end_2 { (result.window.at ≤ result.window.end) × (result.window.end ≤ length input.new) }
+    ensures body { (result.at ≤ result.end) × (result.end ≤ length input.new) }
+    ensures window { (result.window.at ≤ result.window.end) × (result.window.end ≤ length input.new) }
 {
-    let w = ready(&mut *input, before, HEAD);
+    let w = ready(stdin, &mut *input, before, HEAD);
     let at = w.at;
     let there = w.end - at;
     if there == 0 {
@@ -158,7 +161,7 @@ pub fn next_call(input: &mut [u8], before: Window) -> Next
         end: w.end,
     };
     if MOST < n {
-        return too_long(&mut *input, behind, n);
+        return too_long(stdin, &mut *input, behind, n);
     }
-    whole(&mut *input, behind, call, n)
+    whole(stdin, &mut *input, behind, call, n)
 }

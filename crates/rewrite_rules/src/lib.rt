@@ -1,5 +1,6 @@
 // What the rewritings share: their answer, and the line that comes after a line.
 #![tactic(auto)]
+
 ghost use Rattle.std.specs.Prelude.{◌≡◌};
 ghost use Rattle.sheet_operator.specs.Memory.{view};
 ghost use Rattle.sheet.specs.Answer.{accepted};

@@ -1,5 +1,6 @@
 // What one operator does with the item that it takes, and with the variables. Nothing here knows of queues.
 #![tactic(auto)]
+
 ghost use Rattle.std.specs.Prelude.{◌≡◌, true, cond, ◌<◌, get_or, set, pos};
 ghost use Rattle.base_bounds.specs.Bounds.{FIELDS, VARIABLES};
 ghost use Rattle.sheet_operator.specs.Memory.{view, steps_in};

@@ -11,6 +11,7 @@ use borrow.Author.Tests.{ltb-true, leb-false, lt-leb, eq-eqb, not-true}
 use Rattle.base_lists.specs.Lists.{all, any, fresh}
 use Rattle.base_lists.proofs.Build.{never}
 use Rattle.base_lists.proofs.Tests.{both, neither, neither_of, or_right}
+use Rattle.run_store.specs.Store.{push_at}
 use Rattle.base_bounds.specs.Bounds.{QUEUES, ROOM}
 use Rattle.run_store.specs.declared.Item.{Item}
 use Rattle.run_effect.specs.declared.Puts.{Puts}
@@ -119,4 +120,5 @@ pub puts_hold : (cs : List ℕ) (s : List ℤ) (qs : List (List Item)) (to : Lis
     Holds (puts_raw (raw cs s) to x).counts (puts_raw (raw cs s) to x).store (put_all qs to x)
 puts_hold cs s qs [] x h n r = h
 puts_hold cs s qs (q ∷ to) x h n r =
-    puts_hold _ _ (set qs q (get_or qs q [] ++ (x ∷ []))) to x (push_holds cs s qs h q x n r.0 r.1) (length-set qs q _ ∙ n) r.2
+    puts_hold (set cs q (get_or cs q 0 + 1)) (push_at s q (get_or cs q 0) x) (set qs q (get_or qs q [] ++ (x ∷ []))) to x
+    (push_holds cs s qs h q x n r.0 r.1) (length-set qs q _ ∙ n) r.2

@@ -1,5 +1,6 @@
 // The machine in numbers: the state, and one firing from a queue. The runner's calls are made of these.
 #![tactic(auto)]
+
 ghost use Rattle.std.specs.Prelude.{◌≡◌, true, [], ◌<◌, ltb, leb, length, get_or};
 ghost use Rattle.base_lists.specs.Lists.{all, any};
 ghost use Rattle.sheet_operator.specs.Memory.{view};

@@ -1,5 +1,6 @@
 // The operator that reads each queue of an accepted sheet.
 #![tactic(auto)]
+
 ghost use Rattle.std.specs.Prelude.{◌≡◌, true, ltb, get_or};
 ghost use Rattle.base_lists.specs.Lists.{all};
 ghost use Rattle.sheet_operator.specs.Op.{reads};

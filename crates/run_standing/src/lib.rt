@@ -1,5 +1,6 @@
 // The test of a sheet with its state and store: the sheet's own refusal, then 8.
 #![tactic(auto)]
+
 ghost use Rattle.std.specs.Prelude.{◌≡◌, ◌≤◌, eqb, drop};
 ghost use Rattle.base_lists.specs.Lists.{all};
 ghost use Rattle.sheet.specs.Answer.{paper, accepted};

@@ -1,5 +1,6 @@
 // The lent store of items: queue q has the PART numbers from PART * q on, item i of it stands at FIELDS * i there, oldest first, and zeros follow the last.
 #![tactic(auto)]
+
 ghost use Rattle.std.specs.Prelude.{◌≡◌, ◌+◌, ◌*◌, ◌≤◌, ◌<◌, length, replicate, pos};
 ghost use Rattle.run_store.specs.Store.{PART, STORE, part, pushed, without_oldest, first_of, push_at, take_at};
 ghost use Rattle.base_bounds.specs.Bounds.{ROOM};

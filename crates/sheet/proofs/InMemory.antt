@@ -13,7 +13,7 @@ use Rattle.base_lists.proofs.Pad.{pad_length}
 use Rattle.sheet_operator.specs.declared.Operator.{Operator}
 use Rattle.sheet_operator.specs.Memory.{view, memory, no_operator}
 use Rattle.sheet_operator.proofs.ViewLaws.{memory_view, vacant_is}
-use Rattle.sheet_operator.proofs.Held.{Owned, held_all}
+use Rattle.sheet_operator.proofs.Held.{Owned, held_row}
 use Rattle.base_bounds.specs.Bounds.{OPERATORS}
 use Rattle.sheet.specs.declared.Sheet.{Sheet}
 use Rattle.sheet.specs.Answer.{accepted}
@@ -26,7 +26,7 @@ use Rattle.sheet.specs.contracts.Sheet as sheet
 -- what owning a sheet tells of it
 pub held_sheet : (t : Sheet) (vs : List Val) → Owned sheet.the_field t vs → HeldSheet t
 held_sheet t vs p =
-    let ops = held_all OPERATORS t.operators _ p.1.1.1.1.1.1.0 in
+    let ops = held_row OPERATORS t.operators _ p.1.1.1.1.1.1.0 in
     record { full = ops.0; each = λ i l. ops.1 i missing l }
 
 pub sheet_eq : {i i' q q' v v' n n' : ℕ} {os os' : List Operator} → i ≡ i' → q ≡ q' → v ≡ v' → n ≡ n' → os ≡ os' →

@@ -1,5 +1,6 @@
 // A sheet in memory, and its check.
 #![tactic(auto)]
+
 ghost use Rattle.std.specs.Prelude.{◌≡◌, true, ◌||◌, ltb};
 ghost use Rattle.sheet_operator.specs.Memory.{vacant};
 ghost use Rattle.sheet_format.specs.Head.{head_good};

@@ -1,5 +1,6 @@
 // The records of a sheet from bytes: the head, and one operator.
 #![tactic(auto)]
+
 ghost use Rattle.std.specs.Prelude.{◌≡◌, true, ◌+◌, ◌*◌, ◌≤◌, length, drop, get_or};
 ghost use Rattle.base_lists.specs.Lists.{build, pad};
 ghost use Rattle.sheet_step.specs.Step.{STEP_BYTES, step_of, no_step};

@@ -1,5 +1,6 @@
 // The records of a sheet to bytes: the head, and one operator.
 #![tactic(auto)]
+
 ghost use Rattle.std.specs.Prelude.{◌≡◌, ◌∷◌, ◌+◌, ◌*◌, ◌≤◌, length};
 ghost use Rattle.std.proofs.lemmas.List.Edits.{sets};
 ghost use Rattle.base_lists.specs.Lists.{chain};

@@ -1,5 +1,6 @@
 // The judge of one operator after the operators kept before it: refusals 4 to 7.
 #![tactic(auto)]
+
 mod steps;
 
 ghost use Rattle.std.specs.Prelude.{◌≡◌, true, ◌&&◌, [], ◌≤◌, ltb};

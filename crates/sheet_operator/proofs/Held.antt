@@ -125,3 +125,12 @@ pub held_all : (n : ℕ) (l : List Operator) (vs : List Val) → Owned (array_fi
 held_all n l vs p =
     let a = array_at operator.the_field Held no_operator held_no_operator held_of n l vs p in
     (a.0, λ k d h. rw (get_d_any l k d no_operator (rw a.0 h)) (a.1 k))
+
+-- the same of the operators of an array that stands in a struct
+pub held_row : (n : ℕ) (l : List Operator) (vs : List Val) → shadow ((array_field (row_field operator.the_row) n).row.own_val l vs) →
+    (length l ≡ n) × ((k : ℕ) (d : Operator) → k < n → Held (get_or l k d))
+held_row n l vs p =
+    let a =
+    array_at (row_field operator.the_row) Held no_operator held_no_operator held_of n l vs
+    (subst (λ (t : List Operator). shadow ((array_field (row_field operator.the_row) n).row.own_val t vs)) (sym (map-id l)) p) in
+    (a.0, λ k d h. rw (get_d_any l k d no_operator (rw a.0 h)) (a.1 k))

@@ -1,5 +1,6 @@
 // One operator of a sheet in memory: flat places, 0 in those that its kind or count does not use.
 #![tactic(auto)]
+
 ghost use Rattle.std.specs.Prelude.{◌≡◌, ◌||◌, eqb, ltb};
 ghost use Rattle.sheet_step.specs.Step.{blank};
 ghost use Rattle.sheet_operator.specs.Memory.{shape_of, zeros_from, blanks_from, tidy, is_empty, memory_number, vacant};

@@ -1,5 +1,6 @@
 // Sets of queue or variable numbers as flags: what an operator's numbers have in common with one, and what they add to it.
 #![tactic(auto)]
+
 mod steps;
 
 ghost use Rattle.std.specs.Prelude.{◌≡◌, true, not, ◌||◌, ◌≤◌, set, ltb};

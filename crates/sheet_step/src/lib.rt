@@ -1,5 +1,6 @@
 // A step of a line: its table, its judge, its twelve bytes.
 #![tactic(auto)]
+
 ghost use Rattle.std.specs.Prelude.{◌≡◌, ◌+◌, ◌≤◌, length, drop};
 ghost use Rattle.std.proofs.lemmas.List.Edits.{sets};
 ghost use Rattle.sheet_step.specs.Step.{code_of, func_of, row_of, known_func, step_variable, unused_z, field_place, step_places, blank, STEP_BYTES, step_bytes};

@@ -1,5 +1,6 @@
 // A list of names from text, of any length: what the program keeps of it.
 #![tactic(auto)]
+
 ghost use Rattle.std.specs.Prelude.{◌≡◌, ◌≤◌, length};
 ghost use Rattle.text_scan.specs.Reader.{repeat};
 ghost use Rattle.text_grammar.specs.Readers.{name_turn, names};

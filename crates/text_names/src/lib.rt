@@ -1,5 +1,6 @@
 // Names and numbers from text.
 #![tactic(auto)]
+
 ghost use Rattle.std.specs.Prelude.{◌≡◌, ◌-◌, ◌≤◌, length};
 ghost use Rattle.base_words.specs.Text.{natural};
 ghost use Rattle.text_scan.specs.Reader.{spell};

@@ -1,5 +1,6 @@
 // An operator from text, one reader after the other.
 #![tactic(auto)]
+
 ghost use Rattle.std.specs.Prelude.{◌≡◌, ◌≤◌, length};
 ghost use Rattle.sheet_operator.specs.Op.{line, latest, double};
 ghost use Rattle.sheet_operator.specs.Memory.{memory};

@@ -1,5 +1,6 @@
 // The parts of an operator's text into lent bytes: names, numbers, steps, ways. Each function answers the place after what it put.
 #![tactic(auto)]
+
 ghost use Rattle.std.specs.Prelude.{◌+◌, ◌*◌, ◌≤◌, ◌++◌, length};
 ghost use Rattle.base_words.specs.Text.{word, natural, integer};
 ghost use Rattle.sheet_operator.specs.Memory.{PLACES, ways, steps_in};

@@ -1,5 +1,6 @@
 // The place of a byte of an input as a line and a column, and the line of a refusal at a byte.
 #![tactic(auto)]
+
 ghost use Rattle.std.specs.Prelude.{◌+◌, ◌≤◌, ◌≡◌, ◌++◌, length};
 ghost use Rattle.base_bounds.specs.Bounds.{INPUT_BYTES};
 ghost use Rattle.base_words.specs.Text.{natural};

@@ -1,5 +1,6 @@
 // An operator's text into lent bytes. Each function answers the place after what it put.
 #![tactic(auto)]
+
 ghost use Rattle.std.specs.Prelude.{◌+◌, ◌≤◌, length};
 ghost use Rattle.sheet_operator.specs.Memory.{PLACES, view, view_as, Ready};
 ghost use Rattle.text_grammar.specs.Tokens.{printed, op_tokens};

@@ -1,5 +1,6 @@
 // The text of an operator with ways into lent bytes, and the pieces that the other kinds share. Each function answers the place after what it put.
 #![tactic(auto)]
+
 ghost use Rattle.std.specs.Prelude.{◌+◌, ◌*◌, ◌≤◌, ◌++◌, length};
 ghost use Rattle.base_words.specs.Text.{word, natural};
 ghost use Rattle.sheet_operator.specs.Memory.{PLACES, ways, view_as};

@@ -1,7 +1,7 @@
 -- Exactness: every list is, to a reader, one of three: a word of it and something after; the beginning of a word and a byte after which no
 -- word goes on; or the beginning of a word and nothing more. Laws: done, one after the other, again and again, a choice.
 -- Assumes nothing.
-use Prim.Native.Nat.{ℕ, zero, suc, ◌+◌, ◌-◌, ◌<◌}
+use Prim.Native.Nat.{ℕ, zero, suc, ◌<◌}
 use mathlib.Core.Path.{◌≡◌, refl, ap, ◌∙◌, sym}
 use mathlib.Core.Logic.{◌⊎◌, inl, inr}
 use mathlib.Core.Bool.{Bool, true, false, cond}

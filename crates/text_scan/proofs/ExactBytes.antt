@@ -1,8 +1,8 @@
 -- Exactness of the readers of bytes: one of some bytes, at once or after blanks, a word, digits and what closes them.
 -- Assumes nothing.
-use Prim.Native.Nat.{ℕ, ◌+◌, ◌-◌}
+use Prim.Native.Nat.{ℕ}
 use mathlib.Core.Path.{◌≡◌, refl, ap, ◌∙◌, sym}
-use mathlib.Core.Logic.{◌⊎◌, ⊎_elim}
+use mathlib.Core.Logic.{⊎_elim}
 use mathlib.Core.Bool.{Bool, true, false, cond, not, ◌&&◌}
 use mathlib.Core.List.{List, [], ◌∷◌, ◌++◌}
 use native.Mathlib.Omega.{arith}
@@ -11,7 +11,7 @@ use borrow.Author.Tests.{eq-eqb, ne_eqb, not-true}
 use Rattle.base_lists.proofs.Build.{never}
 use Rattle.base_lists.proofs.Tests.{both, neither_of}
 use Rattle.base_lists.specs.Lists.{member, all}
-use Rattle.text_scan.specs.Reader.{Res, got, lost, Reader, bind, ◌>>=◌, ◌>>◌, here, sign, spell, digits, BLANKS, is_blank, is_digit, digit_on, goes_on}
+use Rattle.text_scan.specs.Reader.{Res, got, lost, Reader, bind, ◌>>=◌, here, sign, spell, digits, BLANKS, is_blank, is_digit, digit_on, goes_on}
 use Rattle.text_scan.proofs.Binding.{same_bind}
 use Rattle.text_scan.proofs.Exact.{Viable, View, whole, broken, short, Exact, exact_done, some_word, exact_bind, exact_same, either}
 

@@ -2,13 +2,13 @@
 -- Assumes nothing.
 use Prim.Native.Nat.{ℕ, ◌+◌, ◌<◌, ◌≤◌}
 use mathlib.Core.Path.{◌≡◌, refl, ap, ◌∙◌, sym}
-use mathlib.Core.Bool.{Bool, true, false, cond, not}
+use mathlib.Core.Bool.{Bool, true, false, cond}
 use mathlib.Core.List.{List, [], ◌∷◌}
 use lib.Dec.{eqb}
 use lib.ListN.{length, drop, get_or}
 use borrow.Author.Tests.{eq-eqb, ne_eqb}
 use Rattle.text_scan.specs.declared.Cursor.{Cursor}
-use Rattle.text_scan.specs.Reader.{Res, got, lost, Reader, bind, here, spell}
+use Rattle.text_scan.specs.Reader.{Res, got, Reader, bind, here, spell}
 use Rattle.text_scan.proofs.Places.{one_more, no_more}
 use Rattle.text_scan.specs.Cursor.{stands_as, stands, Goes}
 use Rattle.text_scan.proofs.Binding.{same_bind}

@@ -1,6 +1,6 @@
 -- A list from a place on: one byte and the rest, and the end. Laws of the loops over bytes.
 -- Assumes nothing.
-use Prim.Native.Nat.{ℕ, zero, suc, ◌+◌, ◌-◌, ◌<◌, ◌≤◌}
+use Prim.Native.Nat.{ℕ, zero, suc, ◌+◌, ◌<◌, ◌≤◌}
 use mathlib.Core.Path.{◌≡◌, refl, ap, ◌∙◌, sym}
 use mathlib.Core.Bool.{Bool, true, false, cond, ◌||◌, ◌&&◌}
 use mathlib.Core.List.{List, [], ◌∷◌}

@@ -1,5 +1,6 @@
 // Reading a text from its front. A cursor that is lost stays where it is, so readers are called one after the other without a test.
 #![tactic(auto)]
+
 ghost use Rattle.std.specs.Prelude.{◌≡◌, ◌+◌, ◌-◌, ◌≤◌, ◌<◌, [], ◌∷◌, length, drop};
 ghost use Rattle.base_lists.specs.Lists.{member};
 ghost use Rattle.text_scan.specs.Reader.{is_blank, here, sign, spell, digits, is_digit, goes_on};

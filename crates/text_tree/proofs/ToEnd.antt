@@ -92,7 +92,7 @@ module _ (s : List ℕ) (d : Cursor) (h : HeldOperators) (ok : d.ok ≡ true) (e
       ∙ sym (from_here s d h ok
       ∙ ended (item_by put_op) (exact_item put_op) (no_item put_op) h (drop d.at s) (blank_all (drop d.at s) (sym e ∙ n)))
 
-  module _ (in-text : end < length s) where
+  module _ (in_text : end < length s) where
     more_left : all is_blank (drop d.at s) ≡ false
     more_left =
         false_of _ (λ b. let f : length (drop end s) ≡ 0 = ap length (e ∙ all_blank (drop d.at s) b) in omega (arith, length-drop end s))

@@ -1,5 +1,6 @@
 // A text's head and its operators, up to the text's end: what the program keeps of them.
 #![tactic(auto)]
+
 ghost use Rattle.std.specs.Prelude.{◌≡◌, cond, ◌≤◌, length, leb};
 ghost use Rattle.base_bounds.specs.Bounds.{OPERATORS};
 ghost use Rattle.text_grammar.specs.Readers.{head};

@@ -1,5 +1,6 @@
 // The operators with ways, a deal and a gather, from text, one reader after the other.
 #![tactic(auto)]
+
 ghost use Rattle.std.specs.Prelude.{◌≡◌, [], ◌∷◌, ◌≤◌, length};
 ghost use Rattle.base_words.specs.Text.{word};
 ghost use Rattle.sheet_operator.specs.Op.{deal, gather};

@@ -1,10 +1,10 @@
 // to_text: the text of a sheet, read as bytes from standard input.
 #![tactic(auto)]
 
-fn main() {
+fn main(rt: HostRuntime) {
     let mut input = [0u8; text_programs::SEEN];
     let mut buffer = [0u8; text_programs::OUTPUT];
-    let f = text_streams::take(&mut input);
+    let f = text_streams::take(rt.stdin(), &mut input);
     if f.failed {
         return;
     }

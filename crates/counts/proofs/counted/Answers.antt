@@ -1,0 +1,8 @@
+-- `counts::counted` meets its contract: past the counts a store changes nothing.
+use mathlib.Core.Path.{sym}
+use native.Mathlib.Omega.{arith}
+use lib.Seq.{set_out}
+use Rattle.counts.proofs.counted.Goals as goal
+
+pub returns : goal.returns
+returns c = sym (set_out _ _ _ (omega arith))

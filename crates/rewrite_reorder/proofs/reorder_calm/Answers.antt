@@ -1,0 +1,76 @@
+-- `rewrite_reorder::reorder_calm` meets its contract: one law for each refusal, and the sheet with the two stores.
+-- Assumes nothing.
+use mathlib.Core.Path.{sym, ◌∙◌}
+use native.Mathlib.Omega.{arith}
+use borrow.Author.Tests.{not-true, not-false}
+use Rattle.sheet.specs.Sheet.{HeldSheet}
+use Rattle.sheet.proofs.InMemory.{held_sheet}
+use Rattle.rewrite_rules.proofs.Answers.{rewrites_no, rewrites_done}
+use Rattle.rewrite_rules.specs.Working.{Pair}
+use Rattle.rewrite_rules.proofs.Pairs.{few_steps, two_lines}
+use Rattle.rewrite_reorder.proofs.Reordering as law
+use Rattle.rewrite_reorder.proofs.reorder_calm.Goals as goal
+use Rattle.rewrite_reorder.proofs.reorder_calm.Goals.{Else-n-ne0}
+
+
+held : (c : Else-n-ne0) → HeldSheet c.args.t
+held c = held_sheet c.args.t _ c.well-formed.0
+
+-- the two lines
+pair : (c : Else-n-ne0) → Pair c.args.t c.args.a c.line_after-n.result.place
+pair c = c.line_after-n.ensures.found c.if-n-ne0.false
+
+pub returns-then-n-ne0 : goal.returns-then-n-ne0
+returns-then-n-ne0 c =
+    let n = c.line_after-n in
+    rewrites_no _ _ _ _
+    (law.reorder-refused c.args.t c.args.a n.result.number n.result.place n.ensures c.if-n-ne0.true)
+    c.refused.ensures
+
+pub bounds-t-i : goal.bounds-t-i
+bounds-t-i c = (pair (goal.at.bounds-t-i c).Else-n-ne0).within.0
+
+pub offset_bounds-t-j : goal.offset_bounds-t-j
+offset_bounds-t-j c = omega (arith, (pair (goal.at.offset_bounds-t-j c).Else-n-ne0).within.1)
+
+pub bounds-t-j : goal.bounds-t-j
+bounds-t-j c = (pair (goal.at.bounds-t-j c).Else-n-ne0).within.1
+
+pub apart-requires : goal.apart-requires
+apart-requires c =
+    let few = few_steps c.args.t c.args.a c.line_after-n.result.place (pair (goal.at.apart-requires c).Else-n-ne0) c.requires in
+    (few.0, few.1, (pair (goal.at.apart-requires c).Else-n-ne0).first, (pair (goal.at.apart-requires c).Else-n-ne0).second)
+
+pub returns-then-not-apart : goal.returns-then-not-apart
+returns-then-not-apart c =
+    rewrites_no _ 17 _ _
+    (law.reorder-forbidden c.args.t c.args.a c.line_after-n.result.place (pair (goal.at.returns-then-not-apart c).Else-n-ne0)
+    (sym c.apart.ensures ∙ c.if-not-apart.true))
+    c.refused-then-not-apart.ensures
+
+pub with_steps-requires : goal.with_steps-requires
+with_steps-requires c =
+    two_lines c.args.t c.args.a c.line_after-n.result.place (pair (goal.at.with_steps-requires c).Else-n-ne0) c.requires (held (goal.at.with_steps-requires c).Else-n-ne0)
+
+pub bounds-operators-i : goal.bounds-operators-i
+bounds-operators-i c = (pair (goal.at.bounds-operators-i c).Else-n-ne0).within.0
+
+pub with_steps-requires-2 : goal.with_steps-requires-2
+with_steps-requires-2 c =
+    let w = with-steps-requires (goal.at.with_steps-requires-2 c).After-operators-1 κs in
+    record { first = w.second; second = w.first; first_placed = w.second-placed; second_placed = w.first-placed }
+
+pub offset_bounds-operators-j : goal.offset_bounds-operators-j
+offset_bounds-operators-j c = omega (arith, (pair (goal.at.offset_bounds-operators-j c).Else-n-ne0).within.1)
+
+pub bounds-operators-j : goal.bounds-operators-j
+bounds-operators-j c = (pair (goal.at.bounds-operators-j c).Else-n-ne0).within.1
+
+pub returns : goal.returns
+returns c =
+    let j = c.line_after-n.result.place in
+    rewrites_done _ _ _ _ _
+    (law.reorder-done c.args.t c.args.a j (pair (goal.at.returns c).Else-n-ne0) (sym c.apart.ensures ∙ c.if-not-apart.false))
+    (law.exchanged-places c.args.t c.requires (held (goal.at.returns c).Else-n-ne0) c.args.a j (pair (goal.at.returns c).Else-n-ne0) _ _ c.with_steps.ensures
+    c.with_steps-2.ensures)
+    c.done.ensures

@@ -1,0 +1,13 @@
+-- `rewrite_split::steps_free` meets its contract: the loop keeps that every step passed is one that a split may copy.
+use mathlib.Core.Path.{◌≡◌}
+use mathlib.Core.Bool.{true}
+use Prim.Native.Nat.{◌≤◌, ◌-◌}
+use Rattle.base_lists.specs.Lists.{all}
+use Rattle.sheet_operator.specs.Memory.{steps_in}
+use Rattle.rewrite_split.proofs.steps_free.Given as goal
+
+abbrev pub invariant-loop-j : goal.invariant-loop-j
+invariant-loop-j l = (l.j ≤ l.n) × (all free (steps_in l.j l.ss) ≡ true)
+
+abbrev pub decreases-loop-j : goal.decreases-loop-j
+decreases-loop-j l = l.n - l.j

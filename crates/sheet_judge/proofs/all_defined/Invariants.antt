@@ -1,0 +1,12 @@
+-- `sheet_judge::all_defined` meets its contract: the loop keeps that every queue passed is defined.
+use mathlib.Core.Path.{◌≡◌}
+use mathlib.Core.Bool.{true}
+use Prim.Native.Nat.{ℕ, ◌≤◌, ◌-◌}
+use Rattle.base_lists.specs.Lists.{build, all, has}
+use Rattle.sheet_judge.proofs.all_defined.Given as goal
+
+abbrev pub invariant-loop-q : goal.invariant-loop-q
+invariant-loop-q l = (l.q ≤ l.queues) × (all (has l.defined) (build l.q (λ (k : ℕ). k)) ≡ true)
+
+abbrev pub decreases-loop-q : goal.decreases-loop-q
+decreases-loop-q l = l.queues - l.q

@@ -1,0 +1,14 @@
+-- `sheet_judge::steps::steps_variables_good` meets its contract: the loop keeps that every step passed has a good variable.
+use mathlib.Core.Path.{◌≡◌}
+use mathlib.Core.Bool.{true}
+use Prim.Native.Nat.{◌≤◌, ◌-◌}
+use Rattle.base_lists.specs.Lists.{all}
+use Rattle.sheet_step.specs.Step.{step_variable}
+use Rattle.sheet_operator.specs.Memory.{steps_in}
+use Rattle.sheet_judge.proofs.steps.steps_variables_good.Given as goal
+
+abbrev pub invariant-loop-j : goal.invariant-loop-j
+invariant-loop-j l = (l.j ≤ l.n) × (all (step_variable l.variables) (steps_in l.j l.ss) ≡ true)
+
+abbrev pub decreases-loop-j : goal.decreases-loop-j
+decreases-loop-j l = l.n - l.j

@@ -1,0 +1,14 @@
+-- `text_own::outputs` meets its contract: what is kept is kept of the outputs among the first q queues.
+-- Assumes nothing.
+use mathlib.Core.Path.{◌≡◌}
+use Prim.Native.Nat.{◌-◌, ◌≤◌}
+use Rattle.sheet.specs.Sheet.{view_sheet}
+use Rattle.text_lists.specs.Names.{kept_of}
+use Rattle.text_own.proofs.Loops.{outputs_to}
+use Rattle.text_own.proofs.outputs.Given as goal
+
+abbrev pub invariant-loop-q : goal.invariant-loop-q
+invariant-loop-q l = (l.q ≤ l.t.queues) × (l.names ≡ kept_of (outputs_to (view_sheet l.t) l.q))
+
+abbrev pub decreases-loop-q : goal.decreases-loop-q
+decreases-loop-q l = l.t.queues - l.q

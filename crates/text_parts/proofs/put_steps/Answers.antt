@@ -1,0 +1,13 @@
+-- `text_parts::put_steps` meets its contract: the first i are put.
+-- Assumes nothing.
+use native.Mathlib.Omega.{arith}
+use mathlib.Core.Path.{refl}
+use Prim.Native.Nat.{◌-◌}
+use Rattle.text_parts.proofs.Pieces.{putting_starts, putting_goes_on, putting_ends}
+use Rattle.text_parts.proofs.Listed.{line_more}
+use Rattle.text_parts.proofs.put_steps.Goals as goal
+
+pub loop-i-preserved : goal.loop-i-preserved
+loop-i-preserved c =
+    let l = c.loop-i in
+    putting_goes_on l.invariant (omega arith) c.put_next-end.ensures (line_more l.i _)

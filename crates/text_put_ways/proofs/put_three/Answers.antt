@@ -1,0 +1,7 @@
+-- `text_put_ways::put_three` meets its contract: one piece after the other.
+-- Assumes nothing.
+use Rattle.text_parts.proofs.Pieces.{then}
+use Rattle.text_put_ways.proofs.put_three.Goals as goal
+
+pub returns : goal.returns
+returns c = then c.put_two-a.ensures c.put_last.ensures
