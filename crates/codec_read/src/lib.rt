@@ -1,5 +1,6 @@
 // Sheets from bytes.
 #![tactic(auto)]
+
 ghost use Rattle.std.specs.Prelude.{◌≡◌, false, ◌≤◌, length};
 ghost use Rattle.base_bounds.specs.Bounds.{OPERATORS};
 ghost use Rattle.sheet_decode.specs.Takes.{head_taken};

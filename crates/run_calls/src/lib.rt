@@ -1,5 +1,6 @@
 // Each of the runner's calls where sheet, state and store are good: nothing is checked again.
 #![tactic(auto)]
+
 ghost use Rattle.std.specs.Prelude.{◌≡◌, ◌≤◌};
 ghost use Rattle.base_lists.specs.Lists.{bit};
 ghost use Rattle.sheet.specs.Answer.{paper, accepted, is_accepted};

@@ -1,5 +1,6 @@
 // The ready set where sheet, state and store are good: each queue's reader is tried, and nothing is touched.
 #![tactic(auto)]
+
 ghost use Rattle.std.specs.Prelude.{◌≡◌, true, ◌≤◌};
 ghost use Rattle.base_lists.specs.Lists.{bit};
 ghost use Rattle.sheet_operator.specs.Memory.{view};

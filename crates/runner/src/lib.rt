@@ -1,5 +1,6 @@
 // The runner: fresh, feed, take, fire, run and the ready set, on any sheet, state and store.
 #![tactic(auto)]
+
 ghost use Rattle.std.specs.Prelude.{◌≡◌};
 ghost use Rattle.std.specs.Int.Count.{ones, count_trailing_zeros};
 ghost use Rattle.run_machine.specs.Ready.{SET};

@@ -1,5 +1,6 @@
 // The lists that are an accepted sheet's own, and the test whether a list that was read is one of them.
 #![tactic(auto)]
+
 ghost use Rattle.std.specs.Prelude.{◌≡◌, cond, ℕ};
 ghost use Rattle.base_lists.specs.Lists.{build};
 ghost use Rattle.sheet.specs.Answer.{accepted};

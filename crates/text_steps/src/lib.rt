@@ -1,5 +1,6 @@
 // A line's steps from text, one reader after the other.
 #![tactic(auto)]
+
 ghost use Rattle.std.specs.Prelude.{◌≡◌, [], ◌≤◌, length};
 ghost use Rattle.base_words.specs.Text.{word};
 ghost use Rattle.text_scan.specs.Reader.{sign};

@@ -9,12 +9,10 @@ use Rattle.base_lists.proofs.Pad.{pad_build_more}
 use Rattle.sheet_operator.specs.Memory.{PLACES}
 use Rattle.rewrite_rules.specs.Rewrite.{fallen}
 use Rattle.rewrite_fuse.proofs.Falling.{all_fallen_end}
+use Rattle.rewrite_fuse.proofs.all_fallen.Invariants.{fallen_to}
 use Rattle.rewrite_fuse.proofs.all_fallen.Goals as goal
 
-abbrev fallenTo : ℕ → List ℕ → ℕ → List ℕ
-fallenTo m qs i = pad PLACES 0 (build i (λ (k : ℕ). fallen m (get_or qs k 0)))
-
-more : (m : ℕ) (qs r : List ℕ) (k q : ℕ) → k < PLACES → q ≡ fallen m (get_or qs k 0) → r ≡ fallenTo m qs k → set r k q ≡ fallenTo m qs (k + 1)
+more : (m : ℕ) (qs r : List ℕ) (k q : ℕ) → k < PLACES → q ≡ fallen m (get_or qs k 0) → r ≡ fallen_to m qs k → set r k q ≡ fallen_to m qs (k + 1)
 more m qs r k q h d e = rw (d, e) (pad_build_more PLACES k 0 (λ (j : ℕ). fallen m (get_or qs j 0)) h)
 
 pub loop-k-init : goal.loop-k-init
@@ -23,11 +21,11 @@ loop-k-init c = (omega arith, refl)
 pub loop-k-preserved : goal.loop-k-preserved
 loop-k-preserved c =
     let a = c.args in
-    (omega arith, more a.m a.t2 c.loop-k.r c.loop-k.k c.fallen.result (omega arith) c.fallen.ensures c.loop-k.invariant.1)
+    (omega arith, more a.m a.qs c.loop-k.r c.loop-k.k c.fallen.result (omega arith) c.fallen.ensures c.loop-k.invariant.1)
 
 pub returns : goal.returns
 returns c =
     let a = c.args in
     let e : c.loop-k.k ≡ PLACES = omega arith in
-    let n : length a.t2 ≡ PLACES = omega arith in
-    c.loop-k.invariant.1 ∙ ap (fallenTo a.m a.t2) e ∙ all_fallen_end a.m a.t2 n
+    let n : length a.qs ≡ PLACES = omega arith in
+    c.loop-k.invariant.1 ∙ ap (fallen_to a.m a.qs) e ∙ all_fallen_end a.m a.qs n

@@ -12,17 +12,15 @@ use Rattle.base_bounds.specs.Bounds.{OPERATORS}
 use Rattle.sheet.specs.Sheet.{missing}
 use Rattle.rewrite_fuse.specs.Working.{skip, lowered_in}
 use Rattle.rewrite_fuse.proofs.Falling.{skip_within, closed_end}
+use Rattle.rewrite_fuse.proofs.closed_up.Invariants.{closed_to}
 use Rattle.rewrite_fuse.proofs.closed_up.Goals as goal
 use Rattle.rewrite_fuse.proofs.closed_up.Goals.{After-skip-at}
 
-abbrev closedTo : ℕ → ℕ → List Operator → ℕ → List Operator
-closedTo j m os i = pad OPERATORS no_operator (build i (λ (k : ℕ). lowered_in m (get_or os (skip j k) missing)))
-
 more : (j m : ℕ) (os r : List Operator) (k at : ℕ) (o : Operator) → k < OPERATORS → at ≡ skip j k →
-    o ≡ lowered_in m (get_or os at missing) → r ≡ closedTo j m os k → set r k o ≡ closedTo j m os (k + 1)
+    o ≡ lowered_in m (get_or os at missing) → r ≡ closed_to j m os k → set r k o ≡ closed_to j m os (k + 1)
 more j m os r k at o h a d e =
     ap (λ (l : List Operator). set l k o) e
-    ∙ ap (set (closedTo j m os k) k) (d ∙ ap (λ (i : ℕ). lowered_in m (get_or os i missing)) a)
+    ∙ ap (set (closed_to j m os k) k) (d ∙ ap (λ (i : ℕ). lowered_in m (get_or os i missing)) a)
     ∙ pad_build_more OPERATORS k no_operator (λ (i : ℕ). lowered_in m (get_or os (skip j i) missing)) h
 
 pub loop-k-init : goal.loop-k-init
@@ -41,12 +39,12 @@ bounds-operators-at c = omega (arith, within (goal.at.bounds-operators-at c).Aft
 pub loop-k-preserved : goal.loop-k-preserved
 loop-k-preserved c =
     let a = c.args in
-    let e = more a.j a.m a.t1 c.loop-k.r c.loop-k.k c.skip-at.result c.lowered.result in
+    let e = more a.j a.m a.operators c.loop-k.r c.loop-k.k c.skip-at.result c.lowered.result in
     (omega arith, e (omega arith) c.skip-at.ensures c.lowered.ensures c.loop-k.invariant.1)
 
 pub returns : goal.returns
 returns c =
     let a = c.args in
     let e : c.loop-k.k ≡ a.n - 1 = omega arith in
-    c.loop-k.invariant.1 ∙ ap (closedTo a.j a.m a.t1) e
-    ∙ ap (pad OPERATORS no_operator) (closed_end a.t1 a.j a.m a.n c.requires.1 (omega arith))
+    c.loop-k.invariant.1 ∙ ap (closed_to a.j a.m a.operators) e
+    ∙ ap (pad OPERATORS no_operator) (closed_end a.operators a.j a.m a.n c.requires.1 (omega arith))

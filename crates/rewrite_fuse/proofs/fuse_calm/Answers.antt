@@ -11,9 +11,8 @@ use Rattle.rewrite_fuse.proofs.Fusing as law
 use Rattle.rewrite_fuse.proofs.fuse_calm.Goals as goal
 use Rattle.rewrite_fuse.proofs.fuse_calm.Goals.{Else-n-ne0}
 
-
 held : (c : Else-n-ne0) → HeldSheet c.args.t
-held c = held_sheet c.args.t _ c.well-formed.0
+held c = held_sheet c.args.t _ c.well_formed.0
 
 -- the two lines
 pair : (c : Else-n-ne0) → Pair c.args.t c.args.a c.line_after-n.result.place
@@ -23,7 +22,7 @@ pub returns-then-n-ne0 : goal.returns-then-n-ne0
 returns-then-n-ne0 c =
     let n = c.line_after-n in
     rewrites_no _ _ _ _
-    (law.fuse-refused c.args.t c.args.a n.result.number n.result.place n.ensures c.if-n-ne0.true)
+    (law.fuse_refused c.args.t c.args.a n.result.number n.result.place n.ensures c.if-n-ne0.true)
     c.refused.ensures
 
 pub bounds-t-i : goal.bounds-t-i
@@ -42,19 +41,21 @@ overflow_add-steps c =
 pub returns-then-steps : goal.returns-then-steps
 returns-then-steps c =
     rewrites_no _ 16 _ _
-    (law.fuse-long c.args.t c.args.a c.line_after-n.result.place (pair (goal.at.returns-then-steps c).Else-n-ne0) c.if-steps.true)
+    (law.fuse_long c.args.t c.args.a c.line_after-n.result.place (pair (goal.at.returns-then-steps c).Else-n-ne0) c.if-steps.true)
     c.refused-then-steps.ensures
 
 pub joined-requires : goal.joined-requires
 joined-requires c =
-    (two_lines c.args.t c.args.a c.line_after-n.result.place (pair (goal.at.joined-requires c).Else-n-ne0) c.requires (held (goal.at.joined-requires c).Else-n-ne0), c.if-steps.false)
+    let k = (goal.at.joined-requires c).Else-n-ne0 in
+    (two_lines c.args.t c.args.a c.line_after-n.result.place (pair k) c.requires (held k), c.if-steps.false)
 
 pub bounds-operators-i : goal.bounds-operators-i
 bounds-operators-i c = (pair (goal.at.bounds-operators-i c).Else-n-ne0).within.0
 
 pub closed_up-closed-requires : goal.closed_up-closed-requires
 closed_up-closed-requires c =
-    ((ranges_of_accepted (start (goal.at.closed_up-closed-requires c).Else-n-ne0).args.t (start (goal.at.closed_up-closed-requires c).Else-n-ne0).requires).count, (pair (goal.at.closed_up-closed-requires c).Else-n-ne0).below)
+    let k = (goal.at.closed_up-closed-requires c).Else-n-ne0 in
+    ((ranges_of_accepted c.args.t c.requires).count, (pair k).below)
 
 pub overflow_sub-sheet : goal.overflow_sub-sheet
 overflow_sub-sheet c =
@@ -65,9 +66,10 @@ overflow_sub-sheet-2 c = omega (arith, (pair (goal.at.overflow_sub-sheet-2 c).El
 
 pub returns : goal.returns
 returns c =
+    let k = (goal.at.returns c).Else-n-ne0 in
     let j = c.line_after-n.result.place in
     rewrites_done _ _ _ _ _
-    (law.fuse_done c.args.t c.args.a j (pair (goal.at.returns c).Else-n-ne0) c.if-steps.false)
-    (law.fused-places c.args.t c.requires (held (goal.at.returns c).Else-n-ne0) c.args.a j (pair (goal.at.returns c).Else-n-ne0) _ _ c.joined.ensures
+    (law.fuse_done c.args.t c.args.a j (pair k) c.if-steps.false)
+    (law.fused_places c.args.t c.requires (held k) c.args.a j (pair k) _ _ c.joined.ensures
     c.closed_up-closed.ensures)
     c.done.ensures

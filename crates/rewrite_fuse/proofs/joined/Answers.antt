@@ -5,7 +5,7 @@ use Rattle.rewrite_fuse.proofs.joined.Goals as goal
 
 pub joined_steps-steps-requires : goal.joined_steps-steps-requires
 joined_steps-steps-requires c =
-    (c.requires.1, line_places c.args.o c.requires.0.first c.requires.0.first-placed)
+    (c.requires.1, line_places c.args.o c.requires.0.first c.requires.0.first_placed)
 
 pub returns : goal.returns
 returns c =

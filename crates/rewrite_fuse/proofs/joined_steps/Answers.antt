@@ -10,17 +10,15 @@ use Rattle.base_lists.proofs.Pad.{pad_set}
 use Rattle.sheet_step.specs.Step.{no_step}
 use Rattle.sheet_step.specs.declared.Step.{Step}
 use Rattle.sheet_operator.specs.Memory.{PLACES, steps_in}
+use Rattle.rewrite_fuse.proofs.joined_steps.Invariants.{joined_to}
 use Rattle.rewrite_fuse.proofs.joined_steps.Goals as goal
 
-abbrev joinedTo : List Step → ℕ → List Step → ℕ → List Step
-joinedTo ss n ts k = pad PLACES no_step (steps_in n ss ++ steps_in k ts)
-
 -- no step yet, and one step more
-none : (ss : List Step) (n : ℕ) (ts : List Step) → ss ≡ pad PLACES no_step (steps_in n ss) → ss ≡ joinedTo ss n ts 0
+none : (ss : List Step) (n : ℕ) (ts : List Step) → ss ≡ pad PLACES no_step (steps_in n ss) → ss ≡ joined_to ss n ts 0
 none ss n ts e = e ∙ ap (pad PLACES no_step) (sym (append-nil (steps_in n ss)))
 
-more : (ss : List Step) (n : ℕ) (ts r : List Step) (k : ℕ) → n + k < PLACES → r ≡ joinedTo ss n ts k →
-    set r (n + k) (get_or ts k no_step) ≡ joinedTo ss n ts (k + 1)
+more : (ss : List Step) (n : ℕ) (ts r : List Step) (k : ℕ) → n + k < PLACES → r ≡ joined_to ss n ts k →
+    set r (n + k) (get_or ts k no_step) ≡ joined_to ss n ts (k + 1)
 more ss n ts r k h e =
     let l = steps_in n ss ++ steps_in k ts in
     let s = get_or ts k no_step in
@@ -38,10 +36,10 @@ loop-k-init c = (omega arith, none c.args.ss c.args.n c.args.ts c.requires.1)
 pub loop-k-preserved : goal.loop-k-preserved
 loop-k-preserved c =
     let a = c.args in
-    (omega arith, more a.ss a.n a.t3 c.loop-k.r c.loop-k.k (omega arith) c.loop-k.invariant.1)
+    (omega arith, more a.ss a.n a.ts c.loop-k.r c.loop-k.k (omega arith) c.loop-k.invariant.1)
 
 pub returns : goal.returns
 returns c =
     let a = c.args in
     let e : c.loop-k.k ≡ a.m = omega arith in
-    c.loop-k.invariant.1 ∙ ap (joinedTo a.ss a.n a.t3) e
+    c.loop-k.invariant.1 ∙ ap (joined_to a.ss a.n a.ts) e

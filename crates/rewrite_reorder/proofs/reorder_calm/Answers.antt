@@ -12,9 +12,8 @@ use Rattle.rewrite_reorder.proofs.Reordering as law
 use Rattle.rewrite_reorder.proofs.reorder_calm.Goals as goal
 use Rattle.rewrite_reorder.proofs.reorder_calm.Goals.{Else-n-ne0}
 
-
 held : (c : Else-n-ne0) → HeldSheet c.args.t
-held c = held_sheet c.args.t _ c.well-formed.0
+held c = held_sheet c.args.t _ c.well_formed.0
 
 -- the two lines
 pair : (c : Else-n-ne0) → Pair c.args.t c.args.a c.line_after-n.result.place
@@ -24,7 +23,7 @@ pub returns-then-n-ne0 : goal.returns-then-n-ne0
 returns-then-n-ne0 c =
     let n = c.line_after-n in
     rewrites_no _ _ _ _
-    (law.reorder-refused c.args.t c.args.a n.result.number n.result.place n.ensures c.if-n-ne0.true)
+    (law.reorder_refused c.args.t c.args.a n.result.number n.result.place n.ensures c.if-n-ne0.true)
     c.refused.ensures
 
 pub bounds-t-i : goal.bounds-t-i
@@ -38,19 +37,21 @@ bounds-t-j c = (pair (goal.at.bounds-t-j c).Else-n-ne0).within.1
 
 pub apart-requires : goal.apart-requires
 apart-requires c =
-    let few = few_steps c.args.t c.args.a c.line_after-n.result.place (pair (goal.at.apart-requires c).Else-n-ne0) c.requires in
-    (few.0, few.1, (pair (goal.at.apart-requires c).Else-n-ne0).first, (pair (goal.at.apart-requires c).Else-n-ne0).second)
+    let k = (goal.at.apart-requires c).Else-n-ne0 in
+    let few = few_steps c.args.t c.args.a c.line_after-n.result.place (pair k) c.requires in
+    (few.0, few.1, (pair k).first, (pair k).second)
 
 pub returns-then-not-apart : goal.returns-then-not-apart
 returns-then-not-apart c =
     rewrites_no _ 17 _ _
-    (law.reorder-forbidden c.args.t c.args.a c.line_after-n.result.place (pair (goal.at.returns-then-not-apart c).Else-n-ne0)
+    (law.reorder_forbidden c.args.t c.args.a c.line_after-n.result.place (pair (goal.at.returns-then-not-apart c).Else-n-ne0)
     (sym c.apart.ensures ∙ c.if-not-apart.true))
     c.refused-then-not-apart.ensures
 
 pub with_steps-requires : goal.with_steps-requires
 with_steps-requires c =
-    two_lines c.args.t c.args.a c.line_after-n.result.place (pair (goal.at.with_steps-requires c).Else-n-ne0) c.requires (held (goal.at.with_steps-requires c).Else-n-ne0)
+    let k = (goal.at.with_steps-requires c).Else-n-ne0 in
+    two_lines c.args.t c.args.a c.line_after-n.result.place (pair k) c.requires (held k)
 
 pub bounds-operators-i : goal.bounds-operators-i
 bounds-operators-i c = (pair (goal.at.bounds-operators-i c).Else-n-ne0).within.0
@@ -68,9 +69,10 @@ bounds-operators-j c = (pair (goal.at.bounds-operators-j c).Else-n-ne0).within.1
 
 pub returns : goal.returns
 returns c =
+    let k = (goal.at.returns c).Else-n-ne0 in
     let j = c.line_after-n.result.place in
     rewrites_done _ _ _ _ _
-    (law.reorder-done c.args.t c.args.a j (pair (goal.at.returns c).Else-n-ne0) (sym c.apart.ensures ∙ c.if-not-apart.false))
-    (law.exchanged-places c.args.t c.requires (held (goal.at.returns c).Else-n-ne0) c.args.a j (pair (goal.at.returns c).Else-n-ne0) _ _ c.with_steps.ensures
+    (law.reorder_done c.args.t c.args.a j (pair k) (sym c.apart.ensures ∙ c.if-not-apart.false))
+    (law.exchanged_places c.args.t c.requires (held k) c.args.a j (pair k) _ _ c.with_steps.ensures
     c.with_steps-2.ensures)
     c.done.ensures

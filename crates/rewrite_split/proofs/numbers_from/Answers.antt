@@ -7,10 +7,8 @@ use lib.ListN.{set}
 use Rattle.base_lists.specs.Lists.{build, pad}
 use Rattle.base_lists.proofs.Pad.{pad_build_more}
 use Rattle.sheet_operator.specs.Memory.{PLACES}
+use Rattle.rewrite_split.proofs.numbers_from.Invariants.{from}
 use Rattle.rewrite_split.proofs.numbers_from.Goals as goal
-
-abbrev from : ℕ → ℕ → List ℕ
-from q j = pad PLACES 0 (build j (λ (i : ℕ). q + i))
 
 -- one number more
 more : (q j : ℕ) (l : List ℕ) → j < PLACES → l ≡ from q j → set l j (q + j) ≡ from q (j + 1)

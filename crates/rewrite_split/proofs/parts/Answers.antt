@@ -12,18 +12,15 @@ held : (c : Start) → HeldSheet c.args.t
 held c = held_sheet c.args.t _ c.well_formed.0
 
 pub loop-m-init : goal.loop-m-init
-loop-m-init c = let a = c.args in (omega arith, λ s h. fill_start a.t1 a.i a.k s h)
+loop-m-init c = (omega arith, λ s h. fill_start c.args.t c.args.i c.args.k s h)
 
 pub source-from-requires : goal.source-from-requires
-source-from-requires c = let s = c.requires in omega (arith, s.room.ways)
+source-from-requires c = omega (arith, c.requires.room.ways)
 
 pub bounds-t-from : goal.bounds-t-from
 bounds-t-from c =
     source_in c.args.t c.args.i c.args.k c.requires c.loop-m.m c.source-from.result c.loop-m.invariant.0
     c.loop-m-test.true c.source-from.ensures
-
-pub offset_bounds-t-from : goal.offset_bounds-t-from
-offset_bounds-t-from c = omega (arith, element-copy-out-o (goal.at.offset_bounds-t-from c).After-source-from)
 
 pub piece-p-requires : goal.piece-p-requires
 piece-p-requires c =
@@ -43,5 +40,5 @@ loop-m-preserved c =
 
 pub returns : goal.returns
 returns c =
-    fill_end c.args.t c.args.i c.args.k c.requires (held (goal.at.returns c).Start) c.loop-m.m c.loop-m.r c.loop-m-test.false
-    (c.loop-m.invariant.1 c.requires (held (goal.at.returns c).Start))
+    let h = held (goal.at.returns c).Start in
+    fill_end c.args.t c.args.i c.args.k c.requires h c.loop-m.m c.loop-m.r c.loop-m-test.false (c.loop-m.invariant.1 c.requires h)

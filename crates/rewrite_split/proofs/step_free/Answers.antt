@@ -13,11 +13,11 @@ module _ (t : Step) (w : Row) (e : w ≡ row_of t.func) where
   not_free : w.variable ≡ true → false ≡ (touches_none t && writes_some t)
   not_free v = rw (← e, v)
 
-  free-of-row : w.variable ≡ false → not (eqb w.writes 0) ≡ (touches_none t && writes_some t)
-  free-of-row v = rw (← e, v)
+  free_of_row : w.variable ≡ false → not (eqb w.writes 0) ≡ (touches_none t && writes_some t)
+  free_of_row v = rw (← e, v)
 
 pub returns-then-w : goal.returns-then-w
 returns-then-w c = not_free c.args.t _ c.row_of-w.ensures c.if-w.true
 
 pub returns : goal.returns
-returns c = free-of-row c.args.t _ c.row_of-w.ensures c.if-w.false
+returns c = free_of_row c.args.t _ c.row_of-w.ensures c.if-w.false

@@ -4,16 +4,13 @@ use mathlib.Core.Bool.{Bool, true, ◌&&◌}
 use Prim.Native.Nat.{ℕ, ◌-◌}
 use native.Mathlib.Omega.{arith}
 use lib.ListN.{get_or}
-use borrow.Author.Tests.{not-true, not-false}
 use Rattle.base_lists.proofs.Tests.{all_more, all_stop}
 use Rattle.sheet_step.specs.Step.{no_step}
 use Rattle.sheet_step.specs.declared.Step.{Step}
 use Rattle.sheet_operator.proofs.InTurn.{all_end}
 use Rattle.rewrite_rules.specs.Rewrite.{touches_none, writes_some}
+use Rattle.rewrite_split.proofs.steps_free.Invariants.{free}
 use Rattle.rewrite_split.proofs.steps_free.Goals as goal
-
-abbrev free : Step → Bool
-free t = touches_none t && writes_some t
 
 pub loop-j-init : goal.loop-j-init
 loop-j-init c = (omega arith, refl)
@@ -27,7 +24,7 @@ pub loop-j-preserved : goal.loop-j-preserved
 loop-j-preserved c =
     let a = c.args in (
       omega arith,
-      all_more free c.loop-j.j (λ (k : ℕ). get_or a.t1 k no_step) c.loop-j.invariant.1
+      all_more free c.loop-j.j (λ (k : ℕ). get_or a.ss k no_step) c.loop-j.invariant.1
           (sym c.step_free.ensures ∙ c.if-not-step_free.false),
     )
 

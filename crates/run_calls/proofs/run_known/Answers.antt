@@ -29,12 +29,11 @@ loop-k-init c =
     running_start c.args.t c.args.state c.args.store.now c.args.list.now c.requires (many (goal.at.loop-k-init c).Start) (wide (goal.at.loop-k-init c).Start)
 
 pub fire_found-a-requires : goal.fire_found-a-requires
-fire_found-a-requires c =
-    (
-      c.loop-k.invariant.counts,
-      can_fire_as_found c.args.t (get_or c.args.list.now c.loop-k.k 0) c.reader_at-i.result c.readers-rs.result
-          c.readers-rs.ensures c.reader_at-i.ensures (state_with c.loop-k.counts c.loop-k.vars) c.loop-k.store c.loop-k.invariant.stands,
-    )
+fire_found-a-requires c = (
+  c.loop-k.invariant.counts,
+  can_fire_as_found c.args.t (get_or c.args.list.now c.loop-k.k 0) c.reader_at-i.result c.readers-rs.result
+      c.readers-rs.ensures c.reader_at-i.ensures (state_with c.loop-k.counts c.loop-k.vars) c.loop-k.store c.loop-k.invariant.stands,
+)
 
 pub loop-k-preserved : goal.loop-k-preserved
 loop-k-preserved c =

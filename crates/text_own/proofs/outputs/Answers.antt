@@ -8,8 +8,7 @@ use Rattle.text_own.proofs.outputs.Goals as goal
 
 pub loop-q-preserved : goal.loop-q-preserved
 loop-q-preserved c =
-    let l = c.loop-q in
-    (
+    let l = c.loop-q in (
       omega arith,
       outputs_more c.args.t c.requires l.names c.with_unread-next.result l.q c.reader_at-i.result c.readers-readers.result
           l.invariant.1 c.loop-q-test.true c.readers-readers.ensures c.reader_at-i.ensures c.with_unread-next.ensures,

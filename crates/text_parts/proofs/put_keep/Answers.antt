@@ -5,7 +5,6 @@ use native.Mathlib.Omega.{arith}
 use mir.Facts.{to_z-of_z}
 use Rattle.text_parts.specs.Put.{STEP_TEXT}
 use Rattle.text_parts.proofs.Pieces.{piece, then, within}
-use borrow.Author.Rules.{rules}
 use Rattle.text_parts.proofs.put_keep.Goals as goal
 
 pub returns : goal.returns

@@ -2,7 +2,6 @@
 -- Assumes nothing.
 use native.Mathlib.Omega.{arith}
 use Rattle.text_parts.proofs.Pieces.{piece, then, within}
-use borrow.Author.Rules.{rules}
 use Rattle.text_parts.proofs.put_pair.Goals as goal
 
 pub returns : goal.returns

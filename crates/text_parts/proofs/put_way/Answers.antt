@@ -3,7 +3,6 @@
 use native.Mathlib.Omega.{arith}
 use Rattle.text_parts.specs.Put.{WAY_TEXT}
 use Rattle.text_parts.proofs.Pieces.{piece, then, within}
-use borrow.Author.Rules.{rules}
 use Rattle.text_parts.proofs.put_way.Goals as goal
 
 pub returns-then-first : goal.returns-then-first

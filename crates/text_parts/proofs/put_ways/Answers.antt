@@ -1,9 +1,7 @@
 -- `text_parts::put_ways` meets its contract: the first i are put.
 -- Assumes nothing.
 use native.Mathlib.Omega.{arith}
-use mathlib.Core.Path.{refl}
-use Prim.Native.Nat.{◌-◌}
-use Rattle.text_parts.proofs.Pieces.{putting_starts, putting_goes_on, putting_ends}
+use Rattle.text_parts.proofs.Pieces.{putting_goes_on}
 use Rattle.text_parts.proofs.Listed.{ways_more}
 use Rattle.text_parts.proofs.put_ways.Goals as goal
 

@@ -9,11 +9,11 @@ use Rattle.text_sheet.proofs.HighestLaws.{smaller_right, highest_of_more, highes
 use Rattle.text_sheet.proofs.highest_in.Goals as goal
 
 pub loop-i-init : goal.loop-i-init
-loop-i-init c = (omega arith, smaller_right c.args.t2.count OPERATORS c.placed-end.ensures, refl)
+loop-i-init c = (omega arith, smaller_right c.args.h.count OPERATORS c.placed-end.ensures, refl)
 
 pub loop-i-preserved : goal.loop-i-preserved
 loop-i-preserved c =
-    let ops = c.args.t2.operators in
+    let ops = c.args.h.operators in
     let m = c.highest_input-m.result in (
       omega arith,
       c.loop-i.invariant.1,
@@ -25,5 +25,5 @@ pub returns : goal.returns
 returns c =
     let a = c.args in
     let e : c.loop-i.i ≡ c.placed-end.result = omega arith in
-    highest_reads a.n a.t2 c.highest_input-m.result c.loop-i.i c.loop-i.m c.loop-i.invariant.2 (e ∙ c.placed-end.ensures)
+    highest_reads a.n a.h c.highest_input-m.result c.loop-i.i c.loop-i.m c.loop-i.invariant.2 (e ∙ c.placed-end.ensures)
     c.highest_input-m.ensures

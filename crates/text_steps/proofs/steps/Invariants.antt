@@ -1,7 +1,7 @@
 -- `text_steps::steps` meets its contract. The loop's invariant: k steps more, from here, give what three more give from the beginning.
 -- Assumes nothing.
 use mathlib.Core.Path.{◌≡◌}
-use Prim.Native.Nat.{ℕ, ◌+◌, ◌-◌, ◌≤◌}
+use Prim.Native.Nat.{ℕ, ◌+◌, ◌≤◌}
 use mathlib.Core.List.{[]}
 use lib.ListN.{length}
 use Rattle.text_scan.specs.Reader.{bind}

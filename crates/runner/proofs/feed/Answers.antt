@@ -1,0 +1,30 @@
+-- `runner::feed` meets its contract: the answer of the test of sheet, state and store, or, where that accepts, what `feed_known` answers.
+-- Assumes nothing.
+use mathlib.Core.Path.{refl}
+use Rattle.sheet.specs.declared.Answer.TheVariants.{RefusedAt, Refused}
+use Rattle.runner.proofs.Calling.{stands_of_done, feed_answers, feed_refuses}
+use Rattle.runner.proofs.feed.Goals as goal
+
+pub feed_known-requires : goal.feed_known-requires
+feed_known-requires c =
+    let a = c.args in
+    stands_of_done a.t a.state a.store.now c.stands-a.result c.stands-a.ensures c.in-Done.is
+
+pub returns-in-Done : goal.returns-in-Done
+returns-in-Done c =
+    let f = c.feed_known in
+    let a = c.args in
+    feed_answers a.t a.state a.store.now c.stands-a.result c.stands-a.ensures c.in-Done.is
+    f.result.answer f.result.state f.new.store a.q a.x f.ensures
+
+pub returns-in-RefusedAt : goal.returns-in-RefusedAt
+returns-in-RefusedAt c =
+    let a = c.args in
+    let g = c.in-RefusedAt in
+    feed_refuses a.t a.state a.store.now c.stands-a.result c.stands-a.ensures (RefusedAt g.number g.spot) g.is refl a.q a.x
+
+pub returns-in-Refused : goal.returns-in-Refused
+returns-in-Refused c =
+    let a = c.args in
+    let g = c.in-Refused in
+    feed_refuses a.t a.state a.store.now c.stands-a.result c.stands-a.ensures (Refused g.number) g.is refl a.q a.x
