@@ -1,5 +1,6 @@
 // The split of a line: a deal, copies of the line, and a gather in its place.
 #![tactic(auto)]
+
 ghost use Rattle.std.specs.Prelude.{◌≡◌, cond, ◌&&◌, map, ◌+◌, ◌*◌, ◌-◌, ◌≤◌, ◌<◌, ltb, leb, get_or};
 ghost use Rattle.base_lists.specs.Lists.{build, pad, all};
 ghost use Rattle.sheet_operator.specs.Op.{line, deal, gather};

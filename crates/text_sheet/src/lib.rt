@@ -1,5 +1,6 @@
 // The sheet that the kept parts of a text stand for, with its number of queues.
 #![tactic(auto)]
+
 ghost use Rattle.std.specs.Prelude.{◌≡◌, ◌<◌};
 ghost use Rattle.base_bounds.specs.Bounds.{INPUTS, OPERATORS};
 ghost use Rattle.sheet_operator.specs.Memory.{PLACES, ways};

@@ -1,10 +1,9 @@
 -- `rewrite_fuse::all_fallen` meets its contract: the places hold the numbers passed, each fallen.
 use mathlib.Core.Path.{◌≡◌, refl, ap, ◌∙◌}
 use mathlib.Core.List.{List}
-use Prim.Native.Nat.{ℕ, ◌+◌, ◌-◌, ◌<◌}
+use Prim.Native.Nat.{ℕ, ◌+◌, ◌<◌}
 use native.Mathlib.Omega.{arith}
 use lib.ListN.{length, get_or, set}
-use Rattle.base_lists.specs.Lists.{build, pad}
 use Rattle.base_lists.proofs.Pad.{pad_build_more}
 use Rattle.sheet_operator.specs.Memory.{PLACES}
 use Rattle.rewrite_rules.specs.Rewrite.{fallen}

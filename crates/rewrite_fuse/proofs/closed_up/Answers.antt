@@ -4,7 +4,7 @@ use mathlib.Core.List.{List}
 use Prim.Native.Nat.{ℕ, ◌+◌, ◌-◌, ◌<◌}
 use native.Mathlib.Omega.{arith}
 use lib.ListN.{get_or, set}
-use Rattle.base_lists.specs.Lists.{build, pad}
+use Rattle.base_lists.specs.Lists.{pad}
 use Rattle.base_lists.proofs.Pad.{pad_build_more}
 use Rattle.sheet_operator.specs.Memory.{no_operator}
 use Rattle.sheet_operator.specs.declared.Operator.{Operator}

@@ -1,6 +1,7 @@
 -- `rewrite_fuse::closed_up` meets its contract: the places hold what has come to them so far, each operator without the queue.
 use mathlib.Core.Path.{◌≡◌}
-use Prim.Native.Nat.{◌-◌, ◌≤◌}
+use mathlib.Core.List.{List}
+use Prim.Native.Nat.{ℕ, ◌-◌, ◌≤◌}
 use Rattle.base_lists.specs.Lists.{build, pad}
 use Rattle.sheet_operator.specs.Memory.{no_operator}
 use Rattle.sheet_operator.specs.declared.Operator.{Operator}

@@ -14,11 +14,8 @@ use Rattle.sheet_operator.specs.Memory.{steps_in}
 use Rattle.sheet_operator.proofs.InTurn.{all_end}
 use Rattle.rewrite_reorder.specs.Working.{step_leaves}
 use Rattle.rewrite_reorder.proofs.Fields.{leaves_each}
+use Rattle.rewrite_reorder.proofs.leaves.Invariants.{leaving}
 use Rattle.rewrite_reorder.proofs.leaves.Goals as goal
-
--- a step whose fields the steps of p leave
-abbrev leaving : Operator → Step → Bool
-leaving p s = all (step_leaves s) (steps_in p.count p.steps)
 
 pub loop-k-init : goal.loop-k-init
 loop-k-init c = (omega arith, refl)
@@ -27,20 +24,20 @@ pub returns-then-not-steps_left : goal.returns-then-not-steps_left
 returns-then-not-steps_left c =
     let a = c.args in
     sym
-    (leaves_each (steps_in a.t1.count a.t1.steps) (steps_in a.p.count a.p.steps)
-    ∙ all_stop (leaving a.p) _ _ (λ (j : ℕ). get_or a.t1.steps j no_step) c.loop-k-test.true
+    (leaves_each (steps_in a.o.count a.o.steps) (steps_in a.p.count a.p.steps)
+    ∙ all_stop (leaving a.p) _ _ (λ (j : ℕ). get_or a.o.steps j no_step) c.loop-k-test.true
     (sym c.steps_left.ensures ∙ c.if-not-steps_left.true))
 
 pub loop-k-preserved : goal.loop-k-preserved
 loop-k-preserved c =
     let a = c.args in (
       omega arith,
-      all_more (leaving a.p) c.loop-k.k (λ (j : ℕ). get_or a.t1.steps j no_step) c.loop-k.invariant.1
+      all_more (leaving a.p) c.loop-k.k (λ (j : ℕ). get_or a.o.steps j no_step) c.loop-k.invariant.1
           (sym c.steps_left.ensures ∙ c.if-not-steps_left.false),
     )
 
 pub returns : goal.returns
 returns c =
     let a = c.args in
-    all_end (leaving a.p) _ _ (λ (j : ℕ). get_or a.t1.steps j no_step) c.loop-k.invariant.0 c.loop-k-test.false c.loop-k.invariant.1
-    ∙ sym (leaves_each (steps_in a.t1.count a.t1.steps) (steps_in a.p.count a.p.steps))
+    all_end (leaving a.p) _ _ (λ (j : ℕ). get_or a.o.steps j no_step) c.loop-k.invariant.0 c.loop-k-test.false c.loop-k.invariant.1
+    ∙ sym (leaves_each (steps_in a.o.count a.o.steps) (steps_in a.p.count a.p.steps))

@@ -58,8 +58,9 @@ bounds-operators-i c = (pair (goal.at.bounds-operators-i c).Else-n-ne0).within.0
 
 pub with_steps-requires-2 : goal.with_steps-requires-2
 with_steps-requires-2 c =
-    let w = with-steps-requires (goal.at.with_steps-requires-2 c).After-operators-1 κs in
-    record { first = w.second; second = w.first; first_placed = w.second-placed; second_placed = w.first-placed }
+    let k = (goal.at.with_steps-requires-2 c).Else-n-ne0 in
+    let w = two_lines c.args.t c.args.a c.line_after-n.result.place (pair k) c.requires (held k) in
+    record { first = w.second; second = w.first; first_placed = w.second_placed; second_placed = w.first_placed }
 
 pub offset_bounds-operators-j : goal.offset_bounds-operators-j
 offset_bounds-operators-j c = omega (arith, (pair (goal.at.offset_bounds-operators-j c).Else-n-ne0).within.1)

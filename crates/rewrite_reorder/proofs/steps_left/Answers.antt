@@ -21,7 +21,7 @@ pub loop-k-preserved : goal.loop-k-preserved
 loop-k-preserved c =
     let a = c.args in (
       omega arith,
-      all_more (step_leaves a.s) c.loop-k.k (λ (j : ℕ). get_or a.t2.steps j no_step) c.loop-k.invariant.1
+      all_more (step_leaves a.s) c.loop-k.k (λ (j : ℕ). get_or a.o.steps j no_step) c.loop-k.invariant.1
           (sym c.step_left.ensures ∙ c.if-not-step_left.false),
     )
 

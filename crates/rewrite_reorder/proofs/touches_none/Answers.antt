@@ -21,7 +21,7 @@ pub loop-k-preserved : goal.loop-k-preserved
 loop-k-preserved c =
     let a = c.args in (
       omega arith,
-      all_more touches_none c.loop-k.k (λ (j : ℕ). get_or a.t1.steps j no_step) c.loop-k.invariant.1
+      all_more touches_none c.loop-k.k (λ (j : ℕ). get_or a.o.steps j no_step) c.loop-k.invariant.1
           (ap not (sym c.touches_variable.ensures ∙ c.if-touches_variable.false)),
     )
 

@@ -1,10 +1,9 @@
 -- `rewrite_split::numbers_from` meets its contract: the places hold the numbers so far, and then 0.
 use mathlib.Core.Path.{◌≡◌, refl, ap, ◌∙◌}
 use mathlib.Core.List.{List}
-use Prim.Native.Nat.{ℕ, ◌+◌, ◌-◌, ◌<◌}
+use Prim.Native.Nat.{ℕ, ◌+◌, ◌<◌}
 use native.Mathlib.Omega.{arith}
 use lib.ListN.{set}
-use Rattle.base_lists.specs.Lists.{build, pad}
 use Rattle.base_lists.proofs.Pad.{pad_build_more}
 use Rattle.sheet_operator.specs.Memory.{PLACES}
 use Rattle.rewrite_split.proofs.numbers_from.Invariants.{from}

@@ -1,6 +1,5 @@
 -- `rewrite_split::parts` meets its contract: the places below m hold what they are to hold, the others what they held.
 use mathlib.Core.Path.{◌∙◌}
-use Prim.Native.Nat.{◌-◌}
 use native.Mathlib.Omega.{arith}
 use Rattle.sheet.specs.Sheet.{HeldSheet}
 use Rattle.sheet.proofs.InMemory.{held_sheet}

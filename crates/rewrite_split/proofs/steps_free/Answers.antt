@@ -1,14 +1,11 @@
 -- `rewrite_split::steps_free` meets its contract: the loop keeps that every step passed is one that a split may copy.
 use mathlib.Core.Path.{refl, ◌∙◌, sym}
-use mathlib.Core.Bool.{Bool, true, ◌&&◌}
-use Prim.Native.Nat.{ℕ, ◌-◌}
+use Prim.Native.Nat.{ℕ}
 use native.Mathlib.Omega.{arith}
 use lib.ListN.{get_or}
 use Rattle.base_lists.proofs.Tests.{all_more, all_stop}
 use Rattle.sheet_step.specs.Step.{no_step}
-use Rattle.sheet_step.specs.declared.Step.{Step}
 use Rattle.sheet_operator.proofs.InTurn.{all_end}
-use Rattle.rewrite_rules.specs.Rewrite.{touches_none, writes_some}
 use Rattle.rewrite_split.proofs.steps_free.Invariants.{free}
 use Rattle.rewrite_split.proofs.steps_free.Goals as goal
 

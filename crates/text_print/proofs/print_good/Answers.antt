@@ -11,6 +11,6 @@ returns-then-buffer-n c =
 
 pub returns : goal.returns
 returns c =
-    let k = c.put-text in
+    let k = c.put_text-n in
     prints_done _ _ _ _ k.result c.requires k.ensures.puts _ _ (omega (arith, k.ensures.most)) (omega arith)
     c.put_word.ensures

@@ -13,15 +13,15 @@ loop-i-init c = putting_starts refl
 
 pub offset_bounds-t-i : goal.offset_bounds-t-i
 offset_bounds-t-i c =
-    omega (arith, (ranges_of_accepted c.args.t3 c.requires.0).count)
+    omega (arith, (ranges_of_accepted c.args.t c.requires.0).count)
 
 pub bounds-t-i : goal.bounds-t-i
 bounds-t-i c =
-    omega (arith, (ranges_of_accepted c.args.t3 c.requires.0).count)
+    omega (arith, (ranges_of_accepted c.args.t c.requires.0).count)
 
 pub put_item-end-requires : goal.put_item-end-requires
 put_item-end-requires c =
-    let t = c.args.t3 in
+    let t = c.args.t in
     let i = c.loop-i.i in
     (ready_of_number (op_at t i) ((accepted_facts t c.requires.0).shaped i c.loop-i-test.true), omega (arith, c.requires.1, (ranges_of_accepted t c.requires.0).count))
 
@@ -32,4 +32,4 @@ loop-i-preserved c =
 
 pub returns : goal.returns
 returns c =
-    within _ (omega (arith, (ranges_of_accepted c.args.t3 c.requires.0).count)) (putting_ends c.loop-i.invariant (omega arith))
+    within _ (omega (arith, (ranges_of_accepted c.args.t c.requires.0).count)) (putting_ends c.loop-i.invariant (omega arith))

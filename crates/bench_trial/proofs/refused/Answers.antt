@@ -9,20 +9,12 @@ use Rattle.run_machine.specs.Calls.{fresh_state}
 use Rattle.bench_trial.specs.declared.Tried.{Tried}
 use Rattle.bench_trial.specs.Trial.{refusal}
 use Rattle.bench_trial.specs.Tries.{tried_of}
-use borrow.Author.Rules.{rules}
-use Rattle.bench_trial.proofs.refused.Statement.{statement}
-use Rattle.bench_trial.proofs.refused.Tie as tie
+use Rattle.bench_trial.proofs.refused.Goals as goal
 
 with-sheet : (number spot : ℕ) (t : Sheet) → t ≡ no_sheet →
     ◌≡◌ {A = Tried} (record { number = number; spot = spot; fired = 0; skipped = 0; rest = false; sheet = t; state = fresh_state })
     (tried_of (refusal number spot))
 with-sheet number spot t e = rw e
 
-no-sheet-requires : tie.Need-no-sheet-requires
-no-sheet-requires c κs = search rules
-
-returns : tie.Need-returns
-returns c = with-sheet c.before.args.number c.before.args.spot c.no-sheet.result c.no-sheet.ensures
-
-pub refused-spec : {M : Type 1} → statement M
-refused-spec = tie.close (tie.spec no-sheet-requires returns)
+pub returns : goal.returns
+returns c = with-sheet c.args.number c.args.spot c.no_sheet-sheet.result c.no_sheet-sheet.ensures

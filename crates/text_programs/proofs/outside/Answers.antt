@@ -1,0 +1,12 @@
+-- `text_programs::outside` meets its contract: the line is at the front.
+-- Assumes nothing.
+use native.Mathlib.Omega.{arith}
+use Rattle.text_places.specs.Places.{place_of, outside_line}
+use Rattle.text_programs.specs.Output.{err}
+use Rattle.text_programs.proofs.Sending.{sends_puts}
+use Rattle.text_programs.proofs.outside.Goals as goal
+
+pub returns : goal.returns
+returns c =
+    let p = c.put_outside-n.ensures in
+    sends_puts (err (outside_line 19 c.args.at (place_of c.args.input.now c.args.at))) p.puts (omega (arith, p.most)) c.requires.0
