@@ -1,5 +1,6 @@
 // Text into lent bytes: words, and numbers in decimal. Each function answers the place after what it put.
 #![tactic(auto)]
+
 ghost use Rattle.std.specs.Prelude.{◌+◌, ◌≤◌, ◌≡◌, length};
 ghost use Rattle.base_words.specs.Text.{natural, integer, PutsText};
 

@@ -1,5 +1,6 @@
 // replay: makes the calls of a stream, one at a time, and prints what each answers.
 #![tactic(auto)]
+
 ghost use Rattle.std.specs.Prelude.{◌<◌, length};
 
 use replay_stream::{Found, Window};

@@ -1,5 +1,6 @@
 // One call of the stream: made by what it may change, answered, and what is held afterwards.
 #![tactic(auto)]
+
 ghost use Rattle.std.specs.Prelude.{◌<◌, length};
 
 use replay_held::Holding;

@@ -1,5 +1,6 @@
 // The calls that read a sheet and write one, 2 and 3 as bytes, 19 and 20 as text, made and printed as the other calls on a sheet.
 #![tactic(auto)]
+
 ghost use Rattle.std.specs.Prelude.{◌<◌, cond, ◌≡◌, length};
 ghost use Rattle.text_form.specs.Reading.{is_read};
 ghost use Rattle.text_read.specs.Answer.{text_paper};

@@ -1,5 +1,6 @@
 // What replay holds between calls: at the start, after a call, and where a call sets one number of it, right or wrong.
 #![tactic(auto)]
+
 ghost use Rattle.std.specs.Prelude.{◌<◌, cond, ◌≡◌};
 ghost use Rattle.sheet.specs.Answer.{paper, is_accepted};
 ghost use Rattle.run_machine.specs.Calls.{fresh_state};

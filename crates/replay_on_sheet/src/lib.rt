@@ -1,6 +1,7 @@
 // The calls that leave the sheet as it is, 1, 3 to 5 and 20: the body's numbers taken out, the public function called, its answer printed.
 // A body whose length is not the call's, or a number outside its bounds, prints `bad call` and changes nothing.
 #![tactic(auto)]
+
 ghost use Rattle.std.specs.Prelude.{◌*◌, ◌<◌, ◌≡◌, length};
 ghost use Rattle.base_bounds.specs.Bounds.{QUEUES};
 

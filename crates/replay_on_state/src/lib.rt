@@ -1,5 +1,6 @@
 // The calls on a state, 9 to 12, made and printed as those on a sheet.
 #![tactic(auto)]
+
 ghost use Rattle.std.specs.Prelude.{◌+◌, ◌*◌, ◌<◌, ◌≡◌, length};
 ghost use Rattle.base_bounds.specs.Bounds.{FIELDS};
 

@@ -1,5 +1,6 @@
 // Text for standard output. It waits in a lent buffer, `used` bytes of it, and is written when that is full.
 #![tactic(auto)]
+
 ghost use Rattle.std.specs.Prelude.{◌*◌, ◌+◌, ◌<◌, length};
 
 use run_store::Item;

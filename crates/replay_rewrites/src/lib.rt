@@ -1,5 +1,6 @@
 // The calls that change the sheet: the rewritings, 6 to 8, made and printed as the other calls on a sheet, and the two that read one, 2 and 19.
 #![tactic(auto)]
+
 ghost use Rattle.std.specs.Prelude.{◌<◌, length};
 
 use replay_forms::Sheeted;

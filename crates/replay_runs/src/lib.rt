@@ -1,6 +1,7 @@
 // A run and the ready set, 13 and 14, made and printed as the other calls on a state; the calls that set one number, 15 to 17;
 // and which call each number is of those that may change the state.
 #![tactic(auto)]
+
 ghost use Rattle.std.specs.Prelude.{◌<◌, length};
 
 use replay_held::{Holding, Set, Stated};

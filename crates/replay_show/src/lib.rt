@@ -1,5 +1,6 @@
 // Call 18: the counts, the variables, and each number of the store that is not 0.
 #![tactic(auto)]
+
 ghost use Rattle.std.specs.Prelude.{◌<◌, length};
 
 use replay_printer::{put_bad, put_byte, put_next, put_next_signed, put_text};

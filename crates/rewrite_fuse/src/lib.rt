@@ -1,5 +1,6 @@
 // Fuse: a line and the line that reads its out queue become one, and the queue between them goes.
 #![tactic(auto)]
+
 ghost use Rattle.std.specs.Prelude.{◌≡◌, ◌++◌, map, ◌+◌, ◌<◌, ◌≤◌, take};
 ghost use Rattle.base_lists.specs.Lists.{pad};
 ghost use Rattle.sheet_step.specs.Step.{no_step};

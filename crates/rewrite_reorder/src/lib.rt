@@ -1,5 +1,6 @@
 // Reorder: two lines exchange their steps, where no step takes a variable and neither line touches a field that the other writes.
 #![tactic(auto)]
+
 ghost use Rattle.std.specs.Prelude.{◌≡◌, true, cond, not, [], ◌∷◌, ◌≤◌, eqb};
 ghost use Rattle.base_lists.specs.Lists.{all, member};
 ghost use Rattle.sheet_step.specs.Step.{row_of};

@@ -1,6 +1,5 @@
 -- `rewrite_reorder::apart` meets its contract: four tests, the first that fails decides.
 use mathlib.Core.Path.{sym, ◌∙◌}
-use borrow.Author.Tests.{not-true, not-false}
 use Rattle.rewrite_reorder.proofs.Reordering.{apart_first, apart_second, apart_third, apart_fourth}
 use Rattle.rewrite_reorder.proofs.apart.Goals as goal
 

@@ -1,18 +1,12 @@
 -- `rewrite_reorder::leaves` meets its contract: the loop keeps that no step of p touches a field that the steps of o passed write.
 use mathlib.Core.Path.{refl, ◌∙◌, sym}
-use mathlib.Core.Bool.{Bool, true}
-use Prim.Native.Nat.{ℕ, ◌-◌}
+use Prim.Native.Nat.{ℕ}
 use native.Mathlib.Omega.{arith}
 use lib.ListN.{get_or}
-use borrow.Author.Tests.{not-true, not-false}
-use Rattle.base_lists.specs.Lists.{all}
 use Rattle.base_lists.proofs.Tests.{all_more, all_stop}
 use Rattle.sheet_step.specs.Step.{no_step}
-use Rattle.sheet_step.specs.declared.Step.{Step}
-use Rattle.sheet_operator.specs.declared.Operator.{Operator}
 use Rattle.sheet_operator.specs.Memory.{steps_in}
 use Rattle.sheet_operator.proofs.InTurn.{all_end}
-use Rattle.rewrite_reorder.specs.Working.{step_leaves}
 use Rattle.rewrite_reorder.proofs.Fields.{leaves_each}
 use Rattle.rewrite_reorder.proofs.leaves.Invariants.{leaving}
 use Rattle.rewrite_reorder.proofs.leaves.Goals as goal

@@ -2,7 +2,6 @@
 -- Assumes nothing.
 use mathlib.Core.Path.{sym, ◌∙◌}
 use native.Mathlib.Omega.{arith}
-use borrow.Author.Tests.{not-true, not-false}
 use Rattle.sheet.specs.Sheet.{HeldSheet}
 use Rattle.sheet.proofs.InMemory.{held_sheet}
 use Rattle.rewrite_rules.proofs.Answers.{rewrites_no, rewrites_done}

@@ -1,5 +1,4 @@
 -- `rewrite_reorder::step_left` meets its contract: the two bits of the mask of the fields that s writes.
-use borrow.Author.Tests.{not-true, not-false}
 use Rattle.rewrite_reorder.proofs.Fields.{left_low, left_high}
 use Rattle.rewrite_reorder.proofs.step_left.Goals as goal
 

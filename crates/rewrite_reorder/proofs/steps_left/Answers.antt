@@ -1,10 +1,8 @@
 -- `rewrite_reorder::steps_left` meets its contract: the loop keeps that every step passed leaves the fields that s writes.
 use mathlib.Core.Path.{refl, ◌∙◌, sym}
-use mathlib.Core.Bool.{true}
-use Prim.Native.Nat.{ℕ, ◌-◌}
+use Prim.Native.Nat.{ℕ}
 use native.Mathlib.Omega.{arith}
 use lib.ListN.{get_or}
-use borrow.Author.Tests.{not-true, not-false}
 use Rattle.base_lists.proofs.Tests.{all_more, all_stop}
 use Rattle.sheet_step.specs.Step.{no_step}
 use Rattle.sheet_operator.proofs.InTurn.{all_end}

@@ -1,7 +1,7 @@
 -- `rewrite_reorder::touches_none` meets its contract: the loop keeps that no step passed takes a variable.
 use mathlib.Core.Path.{refl, ap, ◌∙◌, sym}
-use mathlib.Core.Bool.{true, not}
-use Prim.Native.Nat.{ℕ, ◌-◌}
+use mathlib.Core.Bool.{not}
+use Prim.Native.Nat.{ℕ}
 use native.Mathlib.Omega.{arith}
 use lib.ListN.{get_or}
 use Rattle.base_lists.proofs.Tests.{all_more, all_stop}
