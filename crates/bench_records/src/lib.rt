@@ -1,5 +1,6 @@
 // The records of a `bench` input after its sheet: feeds, and then firings. Here they are looked at; nothing is fed or fired.
 #![tactic(auto)]
+
 ghost use Rattle.std.specs.Prelude.{◌≡◌, true, ◌+◌, ◌≤◌, length, drop};
 ghost use Rattle.sheet.specs.Answer.{accepted};
 ghost use Rattle.sheet.specs.Check.{check_of};

@@ -1,5 +1,6 @@
 // A sheet that is written and read back; the round trip both ways is proved here.
 #![tactic(auto)]
+
 ghost use Rattle.std.specs.Prelude.{◌≡◌};
 ghost use Rattle.sheet.specs.Sheet.{no_sheet};
 ghost use Rattle.codec.specs.Again.{Agains};

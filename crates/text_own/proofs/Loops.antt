@@ -93,11 +93,11 @@ module _ (a b : KeptNames) where
   pub counts_apart : (a.count ≡ b.count → ⊥) → false ≡ same_kept a b
   counts_apart h = sym (ap (λ (c : Bool). c && same_list a.queues b.queues) (ne_eqb a.count b.count h))
 
-  module _ (a-full : length a.queues ≡ QUEUES) (b-full : length b.queues ≡ QUEUES) (counts : a.count ≡ b.count) where
+  module _ (a_full : length a.queues ≡ QUEUES) (b_full : length b.queues ≡ QUEUES) (counts : a.count ≡ b.count) where
     kept_by_places : same_kept a b ≡ all (λ (b : Bool). b) (build QUEUES (same_at a.queues b.queues))
     kept_by_places =
         ap (λ (c : Bool). c && same_list a.queues b.queues) (eq-eqb a.count b.count counts)
-        ∙ same_by_places QUEUES a.queues b.queues a-full b-full
+        ∙ same_by_places QUEUES a.queues b.queues a_full b_full
 
     pub places_apart : (k : ℕ) → k < QUEUES → (get_or a.queues k 0 ≡ get_or b.queues k 0 → ⊥) → false ≡ same_kept a b
     places_apart k l h =

@@ -1,5 +1,6 @@
 // Sheets to text.
 #![tactic(auto)]
+
 ghost use Rattle.std.specs.Prelude.{◌+◌, ◌*◌, ◌≤◌, ◌≡◌, length};
 ghost use Rattle.base_lists.specs.Lists.{chain};
 ghost use Rattle.base_bounds.specs.Bounds.{QUEUES, OPERATORS};

@@ -1,5 +1,6 @@
 // What `to_text` and `to_bytes` put out of one input, as functions from its bytes to a lent buffer.
 #![tactic(auto)]
+
 ghost use Rattle.std.specs.Prelude.{◌≤◌, ◌≡◌, length};
 ghost use Rattle.base_bounds.specs.Bounds.{INPUT_BYTES};
 ghost use Rattle.bench_lines.specs.Lines.{refusal_line};

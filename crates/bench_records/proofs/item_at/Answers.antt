@@ -1,16 +1,11 @@
 -- `bench_records::item_at` meets its contract: the fields read so far, and then zeros.
 -- Assumes nothing.
 use mir.Syntax.{w32}
-use mathlib.Core.Path.{refl}
-use Prim.Native.Nat.{◌-◌}
 use native.Mathlib.Omega.{arith}
 use borrow.Author.Rules.{sfits_of}
 use mir.Facts.{to_z-of_z}
 use Rattle.bench_records.proofs.RecordLaws.{fields_more, fields_all}
 use Rattle.bench_records.proofs.item_at.Goals as goal
-
-pub loop-i-init : goal.loop-i-init
-loop-i-init c = (omega arith, refl)
 
 pub loop-i-preserved : goal.loop-i-preserved
 loop-i-preserved c =

@@ -1,35 +1,23 @@
 -- `bench_records::look_feeds` meets its contract: between two records the counts are those of a machine that was fed so far.
 -- Assumes nothing.
 use mathlib.Core.Path.{refl, sym, ◌∙◌}
-use Prim.Native.Nat.{◌+◌, ◌-◌, ◌<◌}
+use Prim.Native.Nat.{◌+◌, ◌<◌}
 use native.Mathlib.Omega.{arith}
 use lib.ListN.{get_or, drop}
 use lib.Seq.{get_or-drop}
 use Rattle.sheet_format.specs.Record.{HEADER}
 use Rattle.bench_records.proofs.RecordLaws.{feed_room}
-use Rattle.bench_records.proofs.Looking.{number_none, looking_starts, looking_few, looking_ends, looking_stops, looking_goes_on}
+use Rattle.bench_records.proofs.Looking.{number_none, looking_starts, looking_ends, looking_stops, looking_goes_on}
 use Rattle.bench_records.proofs.look_feeds.Goals as goal
 
 pub loop-t-init : goal.loop-t-init
 loop-t-init c =
     looking_starts c.args.t c.args.s.now c.args.from _ c.requires.0 c.requires.1 refl _ refl
 
-pub is_feed-requires : goal.is_feed-requires
-is_feed-requires c = c.loop-t.invariant.passing.inside
-
-pub feed_number-number-requires : goal.feed_number-number-requires
-feed_number-number-requires c =
-    let l = c.loop-t in
-    (l.invariant.passing.inside, sym c.is_feed.ensures ∙ c.loop-t-test.true, l.invariant.inputs)
-
 pub returns-then-number-ne0 : goal.returns-then-number-ne0
 returns-then-number-ne0 c =
     looking_stops c.loop-t.invariant (sym c.is_feed.ensures ∙ c.loop-t-test.true) c.feed_number-number.result
     c.feed_number-number.ensures c.if-number-ne0.true
-
-pub overflow_add-q : goal.overflow_add-q
-overflow_add-q c =
-    omega (arith, (feed_room c.args.s.now c.loop-t.at (sym c.is_feed.ensures ∙ c.loop-t-test.true)).0)
 
 -- a feed that is not refused: its whole body, its queue, and the room there
 pub bounds-s-at : goal.bounds-s-at
@@ -38,9 +26,6 @@ bounds-s-at c =
     let p = number_none c.args.t.inputs l.counts (drop l.at c.args.s.now)
     (sym c.feed_number-number.ensures ∙ c.if-number-ne0.false) in
     omega (arith, (feed_room c.args.s.now l.at (sym c.is_feed.ensures ∙ c.loop-t-test.true)).1, p.0)
-
-pub overflow_cast-q : goal.overflow_cast-q
-overflow_cast-q c = omega (arith, c.type_inv.s (c.loop-t.at + HEADER))
 
 pub bounds-counts-q : goal.bounds-counts-q
 bounds-counts-q c =
@@ -64,16 +49,6 @@ bounds-counts-q-in-loop-t c =
     let p = number_none c.args.t.inputs l.counts (drop l.at c.args.s.now)
     (sym c.feed_number-number.ensures ∙ c.if-number-ne0.false) in
     omega (arith, p.1, l.invariant.inputs, get_or-drop l.at c.args.s.now HEADER 0)
-
-pub overflow_add-at : goal.overflow_add-at
-overflow_add-at c =
-    let l = c.loop-t in
-    omega (arith, l.invariant.passing.inside)
-
-pub overflow_add-spot-in-loop-t : goal.overflow_add-spot-in-loop-t
-overflow_add-spot-in-loop-t c =
-    let l = c.loop-t in
-    omega (arith, looking_few l.invariant, l.invariant.passing.inside)
 
 pub loop-t-smaller : goal.loop-t-smaller
 loop-t-smaller c =

@@ -1,14 +1,12 @@
 -- `bench_report::put_output` meets its contract.
 -- Assumes nothing.
+use mathlib.Core.Path.{ap}
+use mathlib.Core.Bool.{not}
 use Rattle.bench_report.proofs.Outputs.{no_lines, some_lines}
 use Rattle.bench_report.proofs.put_output.Goals as goal
-
-pub returns-then-not-output : goal.returns-then-not-output
-returns-then-not-output c =
-    no_lines c.args.output c.args.q c.args.n c.args.store.now c.args.s.now c.args.at c.if-not-output.true
 
 pub returns : goal.returns
 returns c =
     some_lines c.args.output c.args.q c.args.n c.args.store.now c.args.s.now c.args.at _
     c.put_items.result
-    c.if-not-output.false c.requires.3 c.put_items.ensures
+    (ap not c.if-not-output.false) c.requires.3 c.put_items.ensures

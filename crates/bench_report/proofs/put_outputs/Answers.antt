@@ -10,13 +10,6 @@ use Rattle.bench_report.proofs.Outputs.{printing_starts, printing_goes_on, print
 use Rattle.bench_report.proofs.put_outputs.Goals as goal
 use Rattle.bench_report.proofs.put_outputs.Goals.{Start}
 
-module _ (d : Start) where
-  many : length d.args.state.counts ≡ QUEUES
-  many = search rules
-
-  queues : d.args.t.queues ≤ QUEUES
-  queues = printing_queues d.args.t d.args.state d.args.store.now d.requires.1
-
 pub readers-rs-requires : goal.readers-rs-requires
 readers-rs-requires c = c.requires.1.sheet
 

@@ -19,10 +19,6 @@ feed_all-st-requires c =
       all = ap (λ (m : Machine). all_fed (feeds_after t m (drop c.args.end c.args.s.now))) z ∙ c.requires.2;
     }
 
-pub run_list-requires : goal.run_list-requires
-run_list-requires c =
-    (c.feed_all-st.ensures.stands, c.requires.0.same)
-
 pub returns : goal.returns
 returns c =
     let t = c.args.t in

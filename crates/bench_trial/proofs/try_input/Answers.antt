@@ -3,7 +3,6 @@
 use mathlib.Core.Path.{refl}
 use native.Mathlib.Omega.{arith}
 use borrow.Author.Tests.{not-true, not-false}
-use Rattle.codec_read.proofs.ReadEnds.{reads_has_record}
 use Rattle.bench_trial.proofs.Ending.{refused_tries, same_trial}
 use Rattle.bench_trial.proofs.Front.{input_long, front_refused, front_gap, front_whole_lem}
 use Rattle.bench_trial.proofs.try_input.Goals as goal
@@ -38,8 +37,3 @@ returns-in-RefusedAt c =
     let f = c.read_front-f in
     front_refused c.args.s.now (omega arith) f.result f.ensures _ _ c.refused-in-RefusedAt.result _ c.in-RefusedAt.is
     c.refused-in-RefusedAt.ensures
-
-pub returns-in-Refused : goal.returns-in-Refused
-returns-in-Refused c =
-    let f = c.read_front-f in
-    absurd (reads_has_record c.args.s.now f.result f.ensures _ c.in-Refused.is)

@@ -1,6 +1,6 @@
 -- `codec_read::read` meets its contract: what the front answers decides, and at its end what is left over and what is never defined.
 -- Assumes nothing.
-use Rattle.codec_read.proofs.ReadEnds.{front_count, reads_ended, reads_refused, reads_has_record}
+use Rattle.codec_read.proofs.ReadEnds.{front_count, reads_ended, reads_refused}
 use Rattle.codec_read.proofs.read.Goals as goal
 
 pub ended-requires : goal.ended-requires
@@ -17,8 +17,3 @@ pub returns-in-RefusedAt : goal.returns-in-RefusedAt
 returns-in-RefusedAt c =
     let f = c.read_front-f in
     reads_refused _ f.result f.ensures c.refused.result _ _ c.in-RefusedAt.is c.refused.ensures
-
-pub returns-in-Refused : goal.returns-in-Refused
-returns-in-Refused c =
-    let f = c.read_front-f in
-    absurd (reads_has_record _ f.result f.ensures _ c.in-Refused.is)

@@ -1,7 +1,6 @@
 -- `codec_read::read_operators` meets its contract: between two records the reader holds what `ReadTo` says.
 -- Assumes nothing.
 use mathlib.Core.Path.{sym, ◌∙◌}
-use Prim.Native.Nat.{◌-◌}
 use native.Mathlib.Omega.{arith}
 use lib.ListN.{drop}
 use Rattle.sheet_operator.specs.Memory.{Ready}
@@ -30,9 +29,6 @@ loop-i-init c =
     let p = c.requires in
     let b = c.bare-t in
     read_starts b.result c.inputs_seen-seen.result (head_takes _ _ p.0) p.1 b.ensures c.inputs_seen-seen.ensures
-
-pub take-r-requires : goal.take-r-requires
-take-r-requires c = c.loop-i.invariant.inside
 
 pub returns-then-number-ne0 : goal.returns-then-number-ne0
 returns-then-number-ne0 c =

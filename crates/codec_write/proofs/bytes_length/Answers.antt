@@ -1,7 +1,7 @@
 -- `codec_write::bytes_length` meets its contract: the sum is the length of the bytes of the head and of the operators passed.
 -- Assumes nothing.
 use mathlib.Core.Path.{◌≡◌, ap, sym, ◌∙◌}
-use Prim.Native.Nat.{ℕ, ◌-◌}
+use Prim.Native.Nat.{ℕ}
 use native.Mathlib.Omega.{arith}
 use lib.ListN.{length}
 use Rattle.sheet_operator.proofs.ViewLaws.{ready_of_number}
@@ -18,9 +18,6 @@ ranges c = ranges_of_good _ _ _ _ (accepted_facts c.args.t c.requires).head
 pub loop-i-init : goal.loop-i-init
 loop-i-init c = (omega arith, sym (length_none c.args.t), omega arith)
 
-pub offset_bounds-t-i : goal.offset_bounds-t-i
-offset_bounds-t-i c = omega (arith, ranges (goal.at.offset_bounds-t-i c).Start)
-
 pub bounds-t-i : goal.bounds-t-i
 bounds-t-i c = omega (arith, ranges (goal.at.bounds-t-i c).Start)
 
@@ -28,9 +25,6 @@ pub record_length-sum-requires : goal.record_length-sum-requires
 record_length-sum-requires c =
     let t = c.args.t in
     ready_of_number (op_at t c.loop-i.i) ((accepted_facts t c.requires).shaped c.loop-i.i c.loop-i-test.true)
-
-pub overflow_add-sum : goal.overflow_add-sum
-overflow_add-sum c = omega (arith, ranges (goal.at.overflow_add-sum c).Start)
 
 pub loop-i-preserved : goal.loop-i-preserved
 loop-i-preserved c =

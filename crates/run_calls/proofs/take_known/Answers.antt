@@ -5,7 +5,6 @@ use Prim.Native.Nat.{◌<◌}
 use native.Mathlib.Omega.{arith}
 use lib.ListN.{length}
 use borrow.Author.Rules.{rules}
-use borrow.Author.Tests.{not-true, not-false}
 use Rattle.base_bounds.specs.Bounds.{VARIABLES, QUEUES}
 use Rattle.run_store.specs.Store.{STORE}
 use Rattle.sheet.specs.Sheet.{view_sheet}

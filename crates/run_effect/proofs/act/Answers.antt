@@ -3,7 +3,7 @@ use mathlib.Core.Path.{ap, ◌∙◌}
 use lib.ListN.{get_or}
 use Rattle.sheet_operator.specs.declared.Kind.TheVariants.{Line, Double}
 use Rattle.sheet_operator.specs.Op.{Op}
-use Rattle.sheet_operator.proofs.ViewLaws.{by_kind, not_empty}
+use Rattle.sheet_operator.proofs.ViewLaws.{by_kind}
 use Rattle.run_effect.specs.Effect.{line_result, effect}
 use Rattle.run_effect.proofs.Arms.{deal_test, gather_test, latest_effect, deal_effect, gather_effect}
 use borrow.Author.Rules.{rules}
@@ -20,9 +20,6 @@ move_on-u-requires c =
 pub move_on-u-requires-in-Gather : goal.move_on-u-requires-in-Gather
 move_on-u-requires-in-Gather c =
     (c.requires.0.variable, gather_test c.args.o c.args.vars (search rules) ∙ c.requires.1)
-
-pub returns-in-Empty : goal.returns-in-Empty
-returns-in-Empty c = not_empty c.args.o c.requires.0.ready (search rules)
 
 pub returns-in-Line : goal.returns-in-Line
 unfolding effect

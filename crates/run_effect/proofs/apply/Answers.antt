@@ -1,12 +1,9 @@
 -- `run_effect::apply` meets its contract, function by function. Assumes nothing.
-use mathlib.Core.Path.{◌≡◌, refl, ap, ◌∙◌}
-use mathlib.Core.Bool.{true}
+use mathlib.Core.Path.{◌≡◌, ◌∙◌}
 use Prim.Native.Nat.{ℕ}
 use lib.IntN.{ℤ}
 use borrow.Author.Tests.{not-true}
-use Rattle.sheet_step.specs.declared.Func.{Func}
 use Rattle.sheet_step.specs.declared.Func.TheVariants.{None, Keep, Add, Copy, Count, Stamp}
-use Rattle.sheet_step.specs.Step.{row_of}
 use Rattle.run_effect.specs.declared.Flow.{Flow}
 use Rattle.run_effect.specs.Flow.{field_of, with_field, add_of, does}
 use Rattle.run_effect.proofs.Back.{back}
@@ -14,22 +11,11 @@ use Rattle.run_effect.proofs.Lines.{step_of, step_of_dropped}
 use borrow.Author.Rules.{rules}
 use Rattle.run_effect.proofs.apply.Goals as goal
 
-takes : (f k : Func) → f ≡ k → (row_of k).variable ≡ true → (row_of f).variable ≡ true
-takes f k e h = ap (λ (j : Func). (row_of j).variable) e ∙ h
-
 add_same : (x : Flow) (p : ℕ) (a b : ℤ) → a ≡ b → with_field x p (add_of (field_of x p) a) ≡ with_field x p (add_of (field_of x p) b)
 add_same x p a b e = rw e
 
 pub returns-then-not-x : goal.returns-then-not-x
 returns-then-not-x c = step_of_dropped c.args.s c.args.x (not-true _ c.if-not-x.true)
-
-pub count-requires : goal.count-requires
-count-requires c =
-    (c.requires.variable (takes c.args.s.func Count (search rules) refl), search rules)
-
-pub stamp-requires : goal.stamp-requires
-stamp-requires c =
-    (c.requires.variable (takes c.args.s.func Stamp (search rules) refl), search rules)
 
 pub returns-in-None : goal.returns-in-None
 unfolding does

@@ -1,18 +1,12 @@
 -- `run_effect::cursor_good` meets its contract, kind by kind. Assumes nothing.
 use mathlib.Core.Path.{◌∙◌}
-use Rattle.sheet_operator.specs.declared.Kind.TheVariants.{Empty, Line, Latest, Double}
+use Rattle.sheet_operator.specs.declared.Kind.TheVariants.{Line, Latest, Double}
 use Rattle.sheet_operator.specs.Op.{Op}
 use Rattle.sheet_operator.proofs.ViewLaws.{by_kind}
 use Rattle.run_effect.specs.Effect.{cursor_good}
 use Rattle.run_effect.proofs.Arms.{deal_test, gather_test}
 use borrow.Author.Rules.{rules}
 use Rattle.run_effect.proofs.cursor_good.Goals as goal
-
-pub returns-in-Empty : goal.returns-in-Empty
-unfolding cursor_good
-returns-in-Empty c =
-    let a = c.args in
-    by_kind (λ (x : Op). cursor_good x a.vars) a.o Empty (search rules)
 
 pub returns-in-Line : goal.returns-in-Line
 unfolding cursor_good

@@ -1,6 +1,6 @@
 -- `run_effect::has_to_wait` meets its contract, kind by kind. Assumes nothing.
 use mathlib.Core.Path.{◌∙◌}
-use Rattle.sheet_operator.specs.declared.Kind.TheVariants.{Empty, Line, Latest, Double, Deal}
+use Rattle.sheet_operator.specs.declared.Kind.TheVariants.{Line, Latest, Double, Deal}
 use Rattle.sheet_operator.specs.Op.{Op}
 use Rattle.sheet_operator.proofs.ViewLaws.{by_kind}
 use Rattle.run_effect.specs.Effect.{waits}
@@ -11,12 +11,6 @@ use Rattle.run_effect.proofs.has_to_wait.Goals as goal
 pub cursor-c-requires : goal.cursor-c-requires
 cursor-c-requires c =
     (c.requires.0.variable, gather_test c.args.o c.args.vars (search rules) ∙ c.requires.1)
-
-pub returns-in-Empty : goal.returns-in-Empty
-unfolding waits
-returns-in-Empty c =
-    let a = c.args in
-    by_kind (λ (x : Op). waits x a.q a.vars) a.o Empty (search rules)
 
 pub returns-in-Line : goal.returns-in-Line
 unfolding waits

@@ -3,7 +3,7 @@
 use mathlib.Core.Path.{refl}
 use Rattle.sheet_operator.specs.Memory.{view}
 use Rattle.run_machine.specs.Working.{state_with}
-use Rattle.run_machine.proofs.Trying.{fire_empty, refused_of_number, room_left, fired, refused_answers}
+use Rattle.run_machine.proofs.Trying.{fire_empty, room_left, fired, refused_answers}
 use borrow.Author.Rules.{rules}
 use Rattle.run_machine.proofs.fire_operator.Goals as goal
 
@@ -12,14 +12,6 @@ returns-then-counts-i-eq0 c =
     let a = c.args in
     refused_answers (state_with a.counts.now a.vars.now) a.store.now _ 10
     (fire_empty (view a.o) a.q (state_with a.counts.now a.vars.now) a.store.now c.if-counts-i-eq0.true) _ _ refl refl
-
-pub returns-then-number-ne0 : goal.returns-then-number-ne0
-returns-then-number-ne0 c =
-    let t = c.try_operator-a in
-    let a = c.args in
-    let e = refused_of_number a.o a.q (state_with a.counts.now a.vars.now) a.store.now c.requires.0 c.requires.1
-    t.result t.ensures c.if-number-ne0.true in
-    refused_answers (state_with a.counts.now a.vars.now) a.store.now _ _ e _ _ refl refl
 
 pub put_all-requires : goal.put_all-requires
 put_all-requires c =

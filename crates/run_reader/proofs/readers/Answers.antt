@@ -5,8 +5,7 @@ use mathlib.Core.List.{List}
 use Prim.Native.Nat.{ℕ, ◌+◌, ◌-◌, ◌≤◌, ◌<◌}
 use native.Mathlib.Omega.{arith}
 use lib.Dec.{ltb}
-use lib.ListN.{drop}
-use Rattle.base_lists.specs.Lists.{build, all}
+use Rattle.base_lists.specs.Lists.{all}
 use Rattle.base_lists.proofs.Members.{all_below}
 use Rattle.sheet_operator.specs.Op.{Op, double, reads}
 use Rattle.sheet_operator.specs.Memory.{view, Ready}
@@ -17,7 +16,7 @@ use Rattle.sheet.specs.Sheet.{op_at, view_sheet}
 use Rattle.sheet.specs.Check.{check_of}
 use Rattle.sheet.proofs.Accepted.{ranges_of_accepted}
 use Rattle.sheet.proofs.Placed.{ops_many, ops_at}
-use Rattle.run_machine.specs.Readers.{reader_from, readers_with}
+use Rattle.run_machine.specs.Readers.{readers_with}
 use Rattle.run_machine.proofs.AbleOf.{sound_at, able_of_accepted}
 use Rattle.run_machine.proofs.ReaderLaws.{readers_start, readers_turn}
 use Rattle.run_reader.proofs.readers.Invariants.{from}
@@ -40,14 +39,8 @@ asked t h i l =
 pub loop-i-init : goal.loop-i-init
 loop-i-init c = (omega arith, sym (readers_start (view_sheet c.args.t).ops c.args.t.count (omega (arith, ops_many c.args.t))))
 
-pub offset_bounds-t-i : goal.offset_bounds-t-i
-offset_bounds-t-i c = omega (arith, few (goal.at.offset_bounds-t-i c).Start)
-
 pub bounds-t-i : goal.bounds-t-i
 bounds-t-i c = omega (arith, few (goal.at.bounds-t-i c).Start)
-
-pub overflow_cast-i-in-loop-i : goal.overflow_cast-i-in-loop-i
-overflow_cast-i-in-loop-i c = omega (arith, few (goal.at.overflow_cast-i-in-loop-i c).Start)
 
 pub with_reader-next-requires : goal.with_reader-next-requires
 with_reader-next-requires c =
@@ -58,8 +51,3 @@ loop-i-preserved c =
     let t = c.args.t in
     let n : c.loop-i.i ≡ c.loop-i.i - 1 + 1 = omega arith in
     (omega arith, c.with_reader-next.ensures ∙ turn t (c.loop-i.i - 1) c.loop-i.r (omega arith) (c.loop-i.invariant.1 ∙ ap (from t) n))
-
-pub returns : goal.returns
-returns c =
-    let n : c.loop-i.i ≡ 0 = omega arith in
-    c.loop-i.invariant.1 ∙ ap (from c.args.t) n

@@ -1,6 +1,6 @@
 -- `run_reader::readers` meets its contract: the loop keeps that the table is the one of the operators from i on.
 use mathlib.Core.Path.{◌≡◌}
-use Prim.Native.Nat.{◌-◌, ◌≤◌, ℕ}
+use Prim.Native.Nat.{◌≤◌, ℕ}
 use mathlib.Core.List.{List}
 use lib.ListN.{drop}
 use Rattle.base_lists.specs.Lists.{build}

@@ -1,18 +1,17 @@
 -- `run_reader::with_reader` meets its contract: the loop keeps that the operator stands as the reader of each in queue passed.
-use mathlib.Core.Path.{◌≡◌, refl, sym, ap, ◌∙◌}
+use mathlib.Core.Path.{◌≡◌, ap, ◌∙◌}
 use mathlib.Core.List.{List}
-use Prim.Native.Nat.{ℕ, ◌≤◌, ◌<◌, ◌-◌}
+use Prim.Native.Nat.{ℕ, ◌<◌}
 use native.Mathlib.Omega.{arith}
 use lib.Dec.{ltb}
-use lib.ListN.{get_or, set}
+use lib.ListN.{get_or}
 use borrow.Author.Tests.{ltb-true}
 use Rattle.base_lists.specs.Lists.{all}
 use Rattle.base_lists.proofs.Tests.{all_build}
-use Rattle.sheet_operator.specs.Memory.{PLACES, ways}
-use Rattle.sheet_judge.proofs.Shapes.{ins_small, ins_told}
+use Rattle.sheet_operator.specs.Memory.{ways}
+use Rattle.sheet_judge.proofs.Shapes.{ins_told}
 use Rattle.base_bounds.specs.Bounds.{QUEUES}
 use Rattle.run_machine.specs.Readers.{readers_with}
-use Rattle.run_machine.proofs.ReaderLaws.{readers_more}
 use Rattle.run_reader.proofs.with_reader.Goals as goal
 use Rattle.run_reader.proofs.with_reader.Goals.{In-loop-j}
 
@@ -26,32 +25,8 @@ small c =
     (ins_told a.o s c.requires.0 c.shape_of-s.ensures (all (λ (q : ℕ). ltb q QUEUES)) ∙ c.requires.1)
     c.loop-j.j c.loop-j-test.true)
 
-few : (c : In-loop-j) → c.shape_of-s.result.ins ≤ PLACES
-few c =
-    ins_small c.args.o c.shape_of-s.result c.requires.0 c.shape_of-s.ensures
-
-pub loop-j-init : goal.loop-j-init
-loop-j-init c = (omega arith, refl)
-
-pub bounds-o-j : goal.bounds-o-j
-bounds-o-j c = omega (arith, few (goal.at.bounds-o-j c).In-loop-j)
-
-pub overflow_cast-q : goal.overflow_cast-q
-overflow_cast-q c = omega (arith, small (goal.at.overflow_cast-q c).In-loop-j)
-
 pub bounds-r-q : goal.bounds-r-q
 bounds-r-q c = small (goal.at.bounds-r-q c).In-loop-j
-
-pub overflow_add-j : goal.overflow_add-j
-overflow_add-j c = omega (arith, few (goal.at.overflow_add-j c).In-loop-j)
-
-pub loop-j-preserved : goal.loop-j-preserved
-loop-j-preserved c =
-    let a = c.args in (
-      omega arith,
-      ap (λ (l : List ℕ). set l (get_or a.o.ins c.loop-j.j 0) a.i) c.loop-j.invariant.1
-          ∙ sym (readers_more a.readers c.loop-j.j (λ (k : ℕ). get_or a.o.ins k 0) a.i),
-    )
 
 pub returns : goal.returns
 returns c =

@@ -28,9 +28,6 @@ module _ (c : After-ready_bit-b) where
   room : 2 * c.loop-q.set < 2 ^ SET
   room = ready_fits is_ready c.loop-q.q c.loop-q.set (omega arith) (omega arith) c.loop-q.invariant.1
 
-pub readers-rs-requires : goal.readers-rs-requires
-readers-rs-requires c = c.requires.sheet
-
 pub loop-q-init : goal.loop-q-init
 loop-q-init c = (omega arith, ready_past c.args.t c.requires.sheet _)
 

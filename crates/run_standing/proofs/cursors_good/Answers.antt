@@ -1,19 +1,12 @@
 -- `run_standing::cursors_good` meets its contract: every operator passed has its cursor in its range.
-use mathlib.Core.Path.{refl, sym, ◌∙◌}
-use mathlib.Core.Bool.{Bool, true}
-use Prim.Native.Nat.{ℕ, ◌-◌}
+use mathlib.Core.Path.{sym, ◌∙◌}
+use Prim.Native.Nat.{ℕ}
 use native.Mathlib.Omega.{arith}
-use borrow.Author.Tests.{not-true, not-false}
-use lib.IntN.{ℤ}
-use mathlib.Core.List.{List}
 use Rattle.base_lists.proofs.Tests.{all_more, all_stop}
-use Rattle.sheet_operator.proofs.InTurn.{all_end}
-use Rattle.sheet_operator.specs.Op.{Op}
 use Rattle.sheet_operator.specs.Memory.{view}
 use Rattle.sheet_format.proofs.Heads.{HeadRanges}
 use Rattle.sheet.specs.Sheet.{op_at}
 use Rattle.sheet.proofs.Accepted.{ranges_of_accepted}
-use Rattle.run_effect.specs.Effect.{cursor_good}
 use Rattle.run_machine.proofs.AbleOf.{able_of_accepted}
 use Rattle.run_standing.proofs.cursors_good.Invariants.{test}
 use Rattle.run_standing.proofs.cursors_good.Goals as goal
@@ -21,12 +14,6 @@ use Rattle.run_standing.proofs.cursors_good.Goals.{Start}
 
 ranges : (c : Start) → HeadRanges c.args.t.inputs c.args.t.queues c.args.t.variables c.args.t.count
 ranges c = ranges_of_accepted c.args.t c.requires
-
-pub loop-i-init : goal.loop-i-init
-loop-i-init c = (omega arith, refl)
-
-pub offset_bounds-t-i : goal.offset_bounds-t-i
-offset_bounds-t-i c = omega (arith, ranges (goal.at.offset_bounds-t-i c).Start)
 
 pub bounds-t-i : goal.bounds-t-i
 bounds-t-i c = omega (arith, ranges (goal.at.bounds-t-i c).Start)
@@ -41,9 +28,6 @@ returns-then-not-cursor_good c =
     sym (all_stop (test a.vars) a.t.count c.loop-i.i (λ (k : ℕ). view (op_at a.t k)) (omega arith)
     (sym c.cursor_good.ensures ∙ c.if-not-cursor_good.true))
 
-pub overflow_add-i : goal.overflow_add-i
-overflow_add-i c = omega (arith, ranges (goal.at.overflow_add-i c).Start)
-
 pub loop-i-preserved : goal.loop-i-preserved
 loop-i-preserved c =
     let a = c.args in (
@@ -51,8 +35,3 @@ loop-i-preserved c =
       all_more (test a.vars) c.loop-i.i (λ (k : ℕ). view (op_at a.t k)) c.loop-i.invariant.1
           (sym c.cursor_good.ensures ∙ c.if-not-cursor_good.false),
     )
-
-pub returns : goal.returns
-returns c =
-    let a = c.args in
-    all_end (test a.vars) a.t.count c.loop-i.i (λ (k : ℕ). view (op_at a.t k)) c.loop-i.invariant.0 c.loop-i-test.false c.loop-i.invariant.1

@@ -5,7 +5,7 @@ use mathlib.Core.List.{List}
 use Prim.Native.Nat.{ℕ}
 use native.Mathlib.Omega.{arith}
 use borrow.Author.Rules.{rules}
-use borrow.Author.Tests.{not-true, not-false, eq-eqb, ne_eqb}
+use borrow.Author.Tests.{eq-eqb, ne_eqb}
 use lib.Dec.{eqb}
 use lib.IntN.{ℤ}
 use lib.ListN.{length, drop}
@@ -68,13 +68,15 @@ pub returns-then-store-ne-STORE : goal.returns-then-store-ne-STORE
 returns-then-store-ne-STORE c = let a = c.args in length_fails (view_sheet a.t) a.state a.store.now c.if-store-ne-STORE.true
 
 pub returns-then-not-quiet : goal.returns-then-not-quiet
-returns-then-not-quiet c = sized (goal.at.returns-then-not-quiet c).Else-store-ne-STORE false (first_fails _ _ _ c.quiet.ensures c.if-not-quiet.true)
+returns-then-not-quiet c =
+    sized (goal.at.returns-then-not-quiet c).Else-store-ne-STORE false (first_fails _ _ _ c.quiet.ensures c.if-not-quiet.true)
 
 pub none_from-requires : goal.none_from-requires
 none_from-requires c = omega (arith, ranges_of_accepted c.args.t c.requires)
 
 pub returns-then-not-none_from : goal.returns-then-not-none_from
-returns-then-not-none_from c = quieted (goal.at.returns-then-not-none_from c).Else-not-quiet false (first_fails _ _ _ c.none_from.ensures c.if-not-none_from.true)
+returns-then-not-none_from c =
+    quieted (goal.at.returns-then-not-none_from c).Else-not-quiet false (first_fails _ _ _ c.none_from.ensures c.if-not-none_from.true)
 
 pub zeros_from-requires : goal.zeros_from-requires
 zeros_from-requires c =

@@ -2,13 +2,8 @@
 -- Assumes nothing.
 use mathlib.Core.Path.{refl}
 use Rattle.sheet.specs.declared.Answer.TheVariants.{RefusedAt, Refused}
-use Rattle.runner.proofs.Calling.{stands_of_done, feed_answers, feed_refuses}
+use Rattle.runner.proofs.Calling.{feed_answers, feed_refuses}
 use Rattle.runner.proofs.feed.Goals as goal
-
-pub feed_known-requires : goal.feed_known-requires
-feed_known-requires c =
-    let a = c.args in
-    stands_of_done a.t a.state a.store.now c.stands-a.result c.stands-a.ensures c.in-Done.is
 
 pub returns-in-Done : goal.returns-in-Done
 returns-in-Done c =

@@ -1,13 +1,8 @@
 -- `runner::reader_of` meets its contract: the check's refusal, else what the table of readers has for the queue.
 -- Assumes nothing.
 use mathlib.Core.Path.{refl}
-use Rattle.runner.proofs.Asking.{asked_accepted, reader_found, reader_none, reader_refuses}
+use Rattle.runner.proofs.Asking.{reader_found, reader_none, reader_refuses}
 use Rattle.runner.proofs.reader_of.Goals as goal
-
-pub readers-readers-requires : goal.readers-readers-requires
-readers-readers-requires c =
-    let a = c.args in
-    asked_accepted a.t a.q c.check-a.result c.check-a.ensures c.in-Done.is
 
 pub returns-then-place-lt-OPERATORS : goal.returns-then-place-lt-OPERATORS
 returns-then-place-lt-OPERATORS c =

@@ -1,13 +1,8 @@
 -- `runner::ready` meets its contract: the test's refusal with the empty set, else the set that `ready_known` answers.
 -- Assumes nothing.
 use mathlib.Core.Path.{refl}
-use Rattle.runner.proofs.Calling.{stands_of_done, ready_answers, ready_refuses}
+use Rattle.runner.proofs.Calling.{ready_answers, ready_refuses}
 use Rattle.runner.proofs.ready.Goals as goal
-
-pub ready_known-set-requires : goal.ready_known-set-requires
-ready_known-set-requires c =
-    let a = c.args in
-    stands_of_done a.t a.state a.store.now c.stands-a.result c.stands-a.ensures c.in-Done.is
 
 pub returns-in-Done : goal.returns-in-Done
 returns-in-Done c =

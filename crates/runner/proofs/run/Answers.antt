@@ -1,13 +1,8 @@
 -- `runner::run` meets its contract: where sheet, state and store stand the list is run, and otherwise the refusal is the answer and nothing changes.
 -- Assumes nothing.
 use mathlib.Core.Path.{refl}
-use Rattle.runner.proofs.Calling.{stands_of_done, run_answers, run_refuses}
+use Rattle.runner.proofs.Calling.{run_answers, run_refuses}
 use Rattle.runner.proofs.run.Goals as goal
-
-pub run_known-requires : goal.run_known-requires
-run_known-requires c =
-    let a = c.args in
-    stands_of_done a.t a.state a.store.now c.stands-a.result c.stands-a.ensures c.in-Done.is
 
 pub returns-in-Done : goal.returns-in-Done
 returns-in-Done c =

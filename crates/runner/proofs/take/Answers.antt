@@ -1,13 +1,8 @@
 -- `runner::take` meets its contract: the test's refusal with all as it was, else what `take_known` answers.
 -- Assumes nothing.
 use mathlib.Core.Path.{refl}
-use Rattle.runner.proofs.Calling.{stands_of_done, take_answers, take_refuses}
+use Rattle.runner.proofs.Calling.{take_answers, take_refuses}
 use Rattle.runner.proofs.take.Goals as goal
-
-pub take_known-requires : goal.take_known-requires
-take_known-requires c =
-    let a = c.args in
-    stands_of_done a.t a.state a.store.now c.stands-a.result c.stands-a.ensures c.in-Done.is
 
 pub returns-in-Done : goal.returns-in-Done
 returns-in-Done c =

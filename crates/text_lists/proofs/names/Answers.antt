@@ -19,7 +19,8 @@ returns-then-d-eq-SEMICOLON c =
     let a = c.args in
     record {
       within = c.sign-d.ensures.within;
-      reads = reads_kept a.s.now a.c (no_names_read a.s.now a.c c.sign-d.result c.no_names-names-then-d-eq-SEMICOLON.result c.no_names-names-then-d-eq-SEMICOLON.ensures
+      reads = reads_kept a.s.now a.c (no_names_read a.s.now a.c c.sign-d.result c.no_names-names-then-d-eq-SEMICOLON.result
+          c.no_names-names-then-d-eq-SEMICOLON.ensures
           (then_no c.here-b.ensures 59 _ _ c.if-b-eq-SEMICOLON.false ∙ then_yes c.sign-d.ensures 59 _ _ c.if-d-eq-SEMICOLON.true));
       start = c.skip-start.ensures.0;
       begins = c.skip-start.ensures.1;

@@ -1,26 +1,15 @@
-use mathlib.Core.Path.{◌≡◌}
 use Prim.Native.Nat.{◌-◌}
 use native.Mathlib.Omega.{arith}
 use borrow.Author.Rules.{rules}
-use lib.ListN.{length}
-use Rattle.base_bounds.specs.Bounds.{QUEUES}
 use Rattle.text_own.proofs.Loops.{same_more, counts_apart, places_apart, all_same}
 use Rattle.text_own.proofs.same_names.Goals as goal
-use Rattle.text_own.proofs.same_names.Goals.{Start}
-
-module _ (d : Start) where
-  a_full : length d.args.a.queues ≡ QUEUES
-  a_full = search rules
-
-  b_full : length d.args.b.queues ≡ QUEUES
-  b_full = search rules
 
 pub returns-then-a-b : goal.returns-then-a-b
 returns-then-a-b c = counts_apart c.args.a c.args.b c.if-a-b.true
 
 pub returns-then-ps-k : goal.returns-then-ps-k
 returns-then-ps-k c =
-    places_apart c.args.a c.args.b (a_full (goal.at.returns-then-ps-k c).Start) (b_full (goal.at.returns-then-ps-k c).Start) c.if-a-b.false c.loop-k.k c.loop-k-test.true
+    places_apart c.args.a c.args.b (search rules) (search rules) c.if-a-b.false c.loop-k.k c.loop-k-test.true
     c.if-ps-k.true
 
 pub loop-k-preserved : goal.loop-k-preserved
@@ -31,4 +20,4 @@ loop-k-preserved c =
 pub returns : goal.returns
 returns c =
     let l = c.loop-k in
-    all_same c.args.a c.args.b (a_full (goal.at.returns c).Start) (b_full (goal.at.returns c).Start) c.if-a-b.false l.k l.invariant.0 c.loop-k-test.false l.invariant.1
+    all_same c.args.a c.args.b (search rules) (search rules) c.if-a-b.false l.k l.invariant.0 c.loop-k-test.false l.invariant.1

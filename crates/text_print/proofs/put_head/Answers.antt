@@ -11,4 +11,6 @@ pub returns : goal.returns
 returns c =
     spelt (head_text (view_sheet c.args.t))
     (within HEAD_TEXT (omega arith)
-    (then (piece 6 (omega arith) c.put_word-a.ensures) (then c.put_outputs-b.ensures (then (piece 7 (omega arith) c.put_word-d.ensures) (then c.put_inputs-e.ensures (then c.put_byte-f.ensures (piece 1 (omega arith) c.put_word.ensures)))))))
+    (then (piece 6 (omega arith) c.put_word-a.ensures) (then c.put_outputs-b.ensures
+    (then (piece 7 (omega arith) c.put_word-d.ensures) (then c.put_inputs-e.ensures
+    (then c.put_byte-f.ensures (piece 1 (omega arith) c.put_word.ensures)))))))

@@ -22,8 +22,10 @@ bounds-t-i c =
 pub put_item-end-requires : goal.put_item-end-requires
 put_item-end-requires c =
     let t = c.args.t in
-    let i = c.loop-i.i in
-    (ready_of_number (op_at t i) ((accepted_facts t c.requires.0).shaped i c.loop-i-test.true), omega (arith, c.requires.1, (ranges_of_accepted t c.requires.0).count))
+    let i = c.loop-i.i in (
+      ready_of_number (op_at t i) ((accepted_facts t c.requires.0).shaped i c.loop-i-test.true),
+      omega (arith, c.requires.1, (ranges_of_accepted t c.requires.0).count),
+    )
 
 pub loop-i-preserved : goal.loop-i-preserved
 loop-i-preserved c =

@@ -16,5 +16,6 @@ returns c =
     (then c.variable-v.ensures.goes _ ∙ then c.mark-c.ensures _ ∙ then c.arrow-c.ensures _ ∙ then c.mark-c-2.ensures _
     ∙ then c.spell-c.ensures _ ∙ then c.mark-c-3.ensures _ ∙ then c.queue-a.ensures.goes _ ∙ then c.mark-c-4.ensures _
     ∙ then c.queue-b.ensures.goes _ ∙ then c.mark-c-5.ensures _
-    ∙ ways_found i.s.now c.mark-c-5.result 2 (c.queue-a.result.value ∷ c.queue-b.result.value ∷ []) c.ways-f.result c.ways-f.ensures (gather_from c.variable-v.result.value i.q)
+    ∙ ways_found i.s.now c.mark-c-5.result 2 (c.queue-a.result.value ∷ c.queue-b.result.value ∷ []) c.ways-f.result c.ways-f.ensures
+    (gather_from c.variable-v.result.value i.q)
     ∙ then c.variable_is-c.ensures _ ∙ then c.mark-c-6.ensures _)
