@@ -1,5 +1,6 @@
 // What `bench` prints of one input, as a function from its bytes to a lent buffer.
 #![tactic(auto)]
+
 ghost use Rattle.std.specs.Prelude.{◌+◌, ◌*◌, ◌≤◌, ◌<◌, ◌≡◌, length};
 ghost use Rattle.sheet.specs.Sheet.{view_sheet};
 ghost use Rattle.base_words.specs.Text.{PutsText};

@@ -1,5 +1,6 @@
 // One input of `bench`: a sheet, then feeds, then firings; what it comes to. A refused input leaves the lent store as it was.
 #![tactic(auto)]
+
 ghost use Rattle.std.specs.Prelude.{◌≡◌, true, length, drop};
 ghost use Rattle.sheet.specs.Sheet.{view_sheet, memory_sheet};
 ghost use Rattle.run_store.specs.Store.{STORE};

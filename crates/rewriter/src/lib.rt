@@ -1,5 +1,6 @@
 // Fuse, split and reorder, on any sheet in memory.
 #![tactic(auto)]
+
 ghost use Rattle.std.specs.Prelude.{◌≡◌};
 ghost use Rattle.sheet.specs.Answer.{paper, is_accepted};
 ghost use Rattle.rewrite_rules.specs.Answers.{Rewrites};

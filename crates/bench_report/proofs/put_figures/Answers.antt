@@ -1,6 +1,6 @@
 -- `bench_report::put_figures` meets its contract: the counts, the outputs and the variables.
 -- Assumes nothing.
-use mathlib.Core.Path.{◌≡◌, sym}
+use mathlib.Core.Path.{◌≡◌}
 use Prim.Native.Nat.{◌*◌}
 use native.Mathlib.Omega.{arith}
 use lib.ListN.{length}
@@ -18,10 +18,6 @@ use Rattle.bench_report.proofs.put_figures.Goals.{Start}
 -- a state has its sixteen variables
 wide : (d : Start) → length d.args.r.state.vars ≡ VARIABLES
 wide d = search rules
-
-pub slice_bounds-put_variables-end : goal.slice_bounds-put_variables-end
-slice_bounds-put_variables-end c =
-    sym (wide ((goal.at.slice_bounds-put_variables-end c).Start))
 
 pub put_variables-requires : goal.put_variables-requires
 put_variables-requires c =

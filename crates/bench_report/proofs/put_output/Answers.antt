@@ -2,7 +2,7 @@
 -- Assumes nothing.
 use mathlib.Core.Path.{ap}
 use mathlib.Core.Bool.{not}
-use Rattle.bench_report.proofs.Outputs.{no_lines, some_lines}
+use Rattle.bench_report.proofs.Outputs.{some_lines}
 use Rattle.bench_report.proofs.put_output.Goals as goal
 
 pub returns : goal.returns

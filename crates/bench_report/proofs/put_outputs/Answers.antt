@@ -1,22 +1,20 @@
 -- `bench_report::put_outputs` meets its contract: the lines of the first q queues are put.
 -- Assumes nothing.
 use mathlib.Core.Path.{◌≡◌}
-use Prim.Native.Nat.{◌-◌, ◌≤◌}
+use Prim.Native.Nat.{◌≤◌}
 use native.Mathlib.Omega.{arith}
 use borrow.Author.Rules.{rules}
 use lib.ListN.{length}
 use Rattle.base_bounds.specs.Bounds.{QUEUES}
-use Rattle.bench_report.proofs.Outputs.{printing_starts, printing_goes_on, printing_ends, printing_queues, printing_store, printing_room}
+use Rattle.bench_report.proofs.Outputs.{printing_goes_on, printing_ends, printing_queues, printing_store, printing_room}
 use Rattle.bench_report.proofs.put_outputs.Goals as goal
 use Rattle.bench_report.proofs.put_outputs.Goals.{Start}
 
-pub readers-rs-requires : goal.readers-rs-requires
-readers-rs-requires c = c.requires.1.sheet
+many : (d : Start) → length d.args.state.counts ≡ QUEUES
+many d = search rules
 
-pub loop-q-init : goal.loop-q-init
-loop-q-init c =
-    printing_starts c.args.s.now c.args.at c.args.store.now c.readers-rs.result c.args.state.counts
-    c.args.t.queues
+queues : (d : Start) → d.args.t.queues ≤ QUEUES
+queues d = printing_queues d.args.t d.args.state d.args.store.now d.requires.1
 
 pub bounds-counts-j : goal.bounds-counts-j
 bounds-counts-j c = omega (arith, queues (goal.at.bounds-counts-j c).Start, c.loop-q-test.true)
@@ -31,13 +29,6 @@ put_output-end-requires c =
       printing_room c.args.t c.args.state c.args.store.now c.requires.1 (many (goal.at.put_output-end-requires c).Start) l.q,
     )
 
-pub overflow_add-q : goal.overflow_add-q
-overflow_add-q c =
-    omega (arith, queues ((goal.at.overflow_add-q c).Start), c.loop-q-test.true)
-
-pub loop-q-smaller : goal.loop-q-smaller
-loop-q-smaller c = omega (arith, c.loop-q-test.true)
-
 pub loop-q-preserved : goal.loop-q-preserved
 loop-q-preserved c =
     let l = c.loop-q in
@@ -46,9 +37,6 @@ loop-q-preserved c =
     l.s l.end l.q _ c.put_output-end.result c.reader_at-i.result l.invariant c.loop-q-test.true
     c.reader_at-i.ensures
     c.put_output-end.ensures
-
-pub shape_of-s : goal.shape_of-s
-shape_of-s c = c.loop-q.invariant.1.size
 
 pub returns : goal.returns
 returns c =

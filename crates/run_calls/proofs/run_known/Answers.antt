@@ -1,10 +1,7 @@
 -- `run_calls::run_known` meets its contract: each turn runs one entry more, and at the end what was run is the whole list.
 -- Assumes nothing.
-use mathlib.Core.Path.{◌≡◌}
-use borrow.Author.Rules.{rules}
 use native.Mathlib.Omega.{arith}
-use lib.ListN.{length, get_or}
-use Rattle.base_bounds.specs.Bounds.{VARIABLES, QUEUES}
+use lib.ListN.{get_or}
 use Rattle.run_machine.specs.Working.{state_with}
 use Rattle.run_machine.proofs.Found.{can_fire_as_found}
 use Rattle.run_calls.proofs.Running.{running_turn, running_end}

@@ -11,9 +11,7 @@ use Rattle.counts.specs.Calm.{is_calm}
 use Rattle.counts.specs.declared.Calmness.{Calmness}
 use Rattle.counts.specs.Answers.{Calms}
 use Rattle.rewriter.specs.Calls.{calm_stands}
-use borrow.Author.Rules.{rules}
-use Rattle.rewriter.proofs.calm_stands.Statement.{statement}
-use Rattle.rewriter.proofs.calm_stands.Tie as tie
+use Rattle.rewriter.proofs.calm_stands.Goals as goal
 
 module _ (t : Sheet) (r : Calmness) (h : Calms t r) where
   tested : (b : Bool) → r.answer ≡ Done → r.calm ≡ b → cond b accepted (refused 13) ≡ calm_stands t
@@ -27,47 +25,18 @@ module _ (t : Sheet) (r : Calmness) (h : Calms t r) where
       let k : check_of t ≡ paper x = sym h.answer ∙ ap paper e in
       rw (k, f)
 
-calm-requires : tie.Need-calm-requires
-calm-requires c κs = search rules
+pub returns-then-c : goal.returns-then-c
+returns-then-c c =
+    tested c.args.t c.calm-c.result c.calm-c.ensures true c.in-Done.is c.if-c.true
 
-enum_told : tie.Need-enum-told
-enum_told c = search rules
+pub returns-else-c : goal.returns-else-c
+returns-else-c c =
+    tested c.args.t c.calm-c.result c.calm-c.ensures false c.in-Done.is c.if-c.false
 
-returns : tie.Need-returns
-returns c =
-    let k = c.before.before.before in
-    tested k.before.args.t k.calm.result k.calm.ensures true c.before.enum_told.given.1 c.if1.true
+pub returns-in-RefusedAt : goal.returns-in-RefusedAt
+returns-in-RefusedAt c =
+    own c.args.t c.calm-c.result c.calm-c.ensures _ c.in-RefusedAt.is refl
 
-enum-known-a : tie.Need-enum-known-a
-enum-known-a c = search rules
-
-enum-known-a-2 : tie.Need-enum-known-a-2
-enum-known-a-2 c = search rules
-
-returns-2 : tie.Need-returns-2
-returns-2 c =
-    let k = c.before.before.before in
-    tested k.before.args.t k.calm.result k.calm.ensures false c.before.enum_told.given.1 c.if1.false
-
-returns-3 : tie.Need-returns-3
-returns-3 c =
-    let k = c.before.before.before in
-    own k.before.args.t k.calm.result k.calm.ensures _ c.before.a.given.1 refl
-
-returns-4 : tie.Need-returns-4
-returns-4 c =
-    let k = c.before.before.before in
-    own k.before.args.t k.calm.result k.calm.ensures _ c.before.a2.given.1 refl
-
-pub calm-stands-spec : {M : Type 1} → statement M
-calm-stands-spec =
-    tie.close
-    (tie.spec
-    calm-requires
-    enum_told
-    returns
-    enum-known-a
-    enum-known-a-2
-    returns-2
-    returns-3
-    returns-4)
+pub returns-in-Refused : goal.returns-in-Refused
+returns-in-Refused c =
+    own c.args.t c.calm-c.result c.calm-c.ensures _ c.in-Refused.is refl
