@@ -29,7 +29,8 @@ use Rattle.order_theory.proofs.Sheets.{gives, blank, find_none}
 use Rattle.order_theory.proofs.Rewrites.{all_at}
 use Rattle.order_theory.proofs.Counts.{WEq}
 use Rattle.order_theory.proofs.Accept.{Acc, tot_none, gives_n, not_gives, defs_le}
-use Rattle.order_theory.proofs.WorstOf.{wput, worst_frame, worst_all}
+use Rattle.order_theory.proofs.WorstOf.{wput, worst_frame}
+use Rattle.order_theory.proofs.WorstRules.{worst_all}
 use Rattle.order_theory.proofs.Demand.{Counted}
 use Rattle.order.specs.Order.{Feed, given, numbers_fed, to_inputs, roomy}
 use Rattle.order.proofs.Model.{kind_as, kinds_as, item_as, items_as}

@@ -19,3 +19,4 @@ pub mod MoreAcc
 pub mod Final
 pub mod Scan
 pub mod WorstOf
+pub mod WorstRules

@@ -1,0 +1,10 @@
+-- `replay_on_sheet::numbers` is safe and ends: 24 numbers of 4 bytes are within the body.
+-- Assumes nothing.
+use Rattle.std.proofs.Common.{◌≤◌, ◌-◌}
+use Rattle.replay_on_sheet.proofs.numbers.Given as goal
+
+abbrev pub invariant-loop-q : goal.invariant-loop-q
+invariant-loop-q l = l.q ≤ 24
+
+abbrev pub decreases-loop-q : goal.decreases-loop-q
+decreases-loop-q l = 24 - l.q
