@@ -78,6 +78,8 @@ def turned(text, to, skip_fields):
 
 
 def main():
+    if any("Goals as goal" in open(f).read() for f in files("/Answers.antt")):
+        sys.exit("respell: these files have today's form, in which names of goals have dashes: it is run once, after port.py")
     names, to = table()
     dry = "--dry" in sys.argv
     if dry:
