@@ -1,5 +1,6 @@
 -- The three rewritings of a calm sheet: fuse, split and reorder; refusals 14 to 17 in rising number.
-use Rattle.std.specs.Prelude.{ℕ, ◌+◌, ◌*◌, ◌-◌, ◌/◌, ◌%◌, Bool, true, false, cond, not, ◌&&◌, ◌||◌, List, [], ◌∷◌, ◌++◌, map, eqb, ltb, leb, length, get_or, set, take, drop}
+use Rattle.std.specs.Prelude.{ℕ, ◌+◌, ◌*◌, ◌-◌, ◌/◌, ◌%◌, Bool, true, false, cond, not, ◌&&◌, ◌||◌, List, [], ◌∷◌, ◌++◌}
+use Rattle.std.specs.Prelude.{map, eqb, ltb, leb, length, get_or, set, take, drop}
 use Rattle.base_lists.specs.Lists.{build, all, chain, member}
 use Rattle.sheet_step.specs.Step.{row_of}
 use Rattle.sheet_step.specs.declared.Step.{Step}

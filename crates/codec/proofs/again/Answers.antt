@@ -32,4 +32,5 @@ pub returns-in-Refused : goal.returns-in-Refused
 returns-in-Refused c =
     let w = c.write-w in
     let a = c.in-Refused.is in
-    again_refused _ _ _ w.result w.ensures c.unread-in-Refused.result (rw a refl) (ap paper (c.unread-in-Refused.ensures.0 ∙ sym a)) c.unread-in-Refused.ensures.1
+    let u = c.unread-in-Refused in
+    again_refused _ _ _ w.result w.ensures u.result (rw a refl) (ap paper (u.ensures.0 ∙ sym a)) u.ensures.1

@@ -41,29 +41,29 @@ module _ {s : List ℕ} {at n m : ℕ} {k : Kind} (h : Header s at n m k) where
   kind_at : k ≡ kind_of (short_of (drop 2 (drop at s)))
   kind_at = h.kind ∙ ap kind_of (h.code ∙ ap short_of (sym (drop-drop 2 at s)))
 
-  taken-kind : is_empty k ≡ true → taken (drop at s) ≡ bad 2
+  taken_kind : is_empty k ≡ true → taken (drop at s) ≡ bad 2
   unfolding taken
-  taken-kind e = rw (h.some, ← kind_at, e)
+  taken_kind e = rw (h.some, ← kind_at, e)
 
-  taken-length : is_empty k ≡ false → body_good k n ≡ false → taken (drop at s) ≡ bad 1
+  taken_length : is_empty k ≡ false → body_good k n ≡ false → taken (drop at s) ≡ bad 1
   unfolding taken
-  taken-length e g = rw (h.some, ← kind_at, e, ← h.size, g)
+  taken_length e g = rw (h.some, ← kind_at, e, ← h.size, g)
 
-  taken-op : is_empty k ≡ false → body_good k n ≡ true → taken (drop at s) ≡ took (op_of k n (drop (at + 4) s)) (drop (at + 4 + n) s)
+  taken_op : is_empty k ≡ false → body_good k n ≡ true → taken (drop at s) ≡ took (op_of k n (drop (at + 4) s)) (drop (at + 4 + n) s)
   unfolding taken
-  taken-op e g = rw (h.some, ← kind_at, e, ← h.size, g, drop-drop 4 at s, drop-drop n (at + 4) s)
+  taken_op e g = rw (h.some, ← kind_at, e, ← h.size, g, drop-drop 4 at s, drop-drop n (at + 4) s)
 
-  kind-refused : (r : TakenRecord) → is_empty k ≡ true → r ≡ no_record 2 → r ≡ record_at s at
-  kind-refused r e d = refuses s at 2 r (taken-kind e) d
+  kind_refused : (r : TakenRecord) → is_empty k ≡ true → r ≡ no_record 2 → r ≡ record_at s at
+  kind_refused r e d = refuses s at 2 r (taken_kind e) d
 
-  length-refused : (r : TakenRecord) → is_empty k ≡ false → body_good k n ≡ false → r ≡ no_record 1 → r ≡ record_at s at
-  length-refused r e g d = refuses s at 1 r (taken-length e g) d
+  length_refused : (r : TakenRecord) → is_empty k ≡ false → body_good k n ≡ false → r ≡ no_record 1 → r ≡ record_at s at
+  length_refused r e g d = refuses s at 1 r (taken_length e g) d
 
   takes : (o : Operator) → is_empty k ≡ false → body_good k n ≡ true → o ≡ memory (op_of k n (drop (at + 4) s)) → took_as (at + 4 + n) o ≡ record_at s at
   unfolding record_at
   takes o e g q =
       ap (took_as (at + 4 + n)) q ∙ ap (λ (m : ℕ). took_as (at + 4 + m) (memory (op_of k n (drop (at + 4) s)))) h.size
-      ∙ ap (record_as s at) (sym (taken-op e g))
+      ∙ ap (record_as s at) (sym (taken_op e g))
 
 some_at : (c : Else-is_cut) →
     let a = c.args in
@@ -98,13 +98,13 @@ short_at-code-requires c = omega (arith, some_at (goal.at.short_at-code-requires
 pub returns-then-is_empty : goal.returns-then-is_empty
 returns-then-is_empty c =
     let e = sym c.is_empty.ensures ∙ c.if-is_empty.true in
-    kind-refused (header (goal.at.returns-then-is_empty c).After-kind_of-k) _ e c.refused-then-is_empty.ensures
+    kind_refused (header (goal.at.returns-then-is_empty c).After-kind_of-k) _ e c.refused-then-is_empty.ensures
 
 pub returns-then-not-body_good : goal.returns-then-not-body_good
 returns-then-not-body_good c =
     let e = sym c.is_empty.ensures ∙ c.if-is_empty.false in
     let g = sym c.body_good.ensures ∙ c.if-not-body_good.true in
-    length-refused (header (goal.at.returns-then-not-body_good c).After-kind_of-k) _ e g c.refused-then-not-body_good.ensures
+    length_refused (header (goal.at.returns-then-not-body_good c).After-kind_of-k) _ e g c.refused-then-not-body_good.ensures
 
 pub operator_at-op-requires : goal.operator_at-op-requires
 operator_at-op-requires c =

@@ -1,7 +1,8 @@
 -- `text_programs::to_bytes` meets its contract: one law for each way out.
 -- Assumes nothing.
 use Rattle.text_programs.proofs.Sending.{sends_as}
-use Rattle.text_programs.proofs.Programs.{to_bytes_long, to_bytes_accepted, to_bytes_within, to_bytes_done, to_bytes_refused_at, to_bytes_refused, to_bytes_outside}
+use Rattle.text_programs.proofs.Programs.{to_bytes_long, to_bytes_accepted, to_bytes_within, to_bytes_done}
+use Rattle.text_programs.proofs.Programs.{to_bytes_refused_at, to_bytes_refused, to_bytes_outside}
 use Rattle.text_programs.proofs.to_bytes.Goals as goal
 
 pub returns-then-input-gt-INPUT : goal.returns-then-input-gt-INPUT

@@ -40,7 +40,8 @@ loop-d-preserved c =
     let h = c.loop-d.held in
     let s = c.args.s.now in
     let new = c.item-f.result.op in
-    let kept = stored h c.next_place-p.result c.next_count.result _ _ new c.chosen-o.result c.next_place-p.ensures refl c.chosen-o.ensures c.next_count.ensures in (
+    let p = c.next_place-p in
+    let kept = stored h p.result c.next_count.result _ _ new c.chosen-o.result p.ensures refl c.chosen-o.ensures c.next_count.ensures in (
       c.item-f.ensures.within,
       ap (to_end_of s (record { ok = c.item-f.result.ok; at = c.item-f.result.at; value = 0 })) kept
           ∙ sym (goes_further s c.loop-d.d h c.loop-d-test.true c.skip-end.result c.skip-end.ensures.1
