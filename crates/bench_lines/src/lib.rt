@@ -28,11 +28,9 @@ fn put_fields(s: &mut [u8], at: usize, fields: &[i32]) -> usize
     ensures { PutsText (chain spaced fields.now) s.old at s.new result × (result ≤ at + SPACED * length fields.now) }
 {
     let mut end = at;
-    let mut i = 0;
-    while i < fields.len() {
+    for i in 0..fields.len() {
         let z = fields[i];
         end = put_spaced(s, end, z);
-        i += 1;
     }
     end
 }
@@ -82,11 +80,9 @@ pub fn put_variables(s: &mut [u8], at: usize, n: usize, vars: &[i32]) -> usize
     ensures { PutsText (variable_lines 0 (take n vars.now)) s.old at s.new result × (result ≤ at + LINE * n) }
 {
     let mut end = at;
-    let mut i = 0;
-    while i < n {
+    for i in 0..n {
         let z = vars[i];
         end = put_variable(s, end, i, z);
-        i += 1;
     }
     end
 }

@@ -61,11 +61,9 @@ pub fn item_at(s: &[u8], at: usize) -> Item
     let mut x = Item {
         f: [0; run_store::FIELDS],
     };
-    let mut i = 0;
-    while i < run_store::FIELDS {
+    for i in 0..run_store::FIELDS {
         let z = base_number::int_at(s, at + FIELDS_AT + 4 * i);
         x.f[i] = z;
-        i += 1;
     }
     x
 }

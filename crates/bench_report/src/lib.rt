@@ -49,13 +49,11 @@ fn put_outputs(s: &mut [u8], at: usize, t: Sheet, state: State, store: &[i32]) -
     let counts = state.counts;
     let n = t.queues;
     let mut end = at;
-    let mut q: u8 = 0;
-    while q < n {
+    for q in 0..n {
         let i = run_reader::reader_at(rs, q);
         let j = q as usize;
         let k = counts[j];
         end = put_output(s, end, i == sheet::OPERATORS, q, k, store);
-        q += 1;
     }
     end
 }

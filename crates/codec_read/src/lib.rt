@@ -62,8 +62,7 @@ fn read_operators(s: &[u8], h: Head) -> Front
     let mut t = bare(h);
     let mut seen = sheet_judge::inputs_seen(h.inputs);
     let mut at = sheet_format::HEAD_BYTES;
-    let mut i = 0;
-    while i < n {
+    for i in 0..n {
         let spot = (i + 1) as u8;
         let r = sheet_decode::take(s, at);
         let number = r.number;
@@ -81,7 +80,6 @@ fn read_operators(s: &[u8], h: Head) -> Front
         let next = a.seen;
         seen = next;
         at = r.next;
-        i += 1;
     }
     let whole = sheet_judge::all_defined(seen, queues);
     Front {

@@ -24,11 +24,9 @@ fn bytes_length(t: Sheet) -> usize
 {
     let n = t.count as usize;
     let mut sum = sheet_format::HEAD_BYTES;
-    let mut i = 0;
-    while i < n {
+    for i in 0..n {
         let o = t.operators[i];
         sum += sheet_encode::record_length(o);
-        i += 1;
     }
     sum
 }
@@ -41,12 +39,10 @@ fn put_sheet(buffer: &mut [u8], t: Sheet)
     let n = t.count as usize;
     sheet_encode::put_head(buffer, t.inputs, t.queues, t.variables, t.count);
     let mut end = sheet_format::HEAD_BYTES;
-    let mut i = 0;
-    while i < n {
+    for i in 0..n {
         let o = t.operators[i];
         sheet_encode::put(buffer, end, o);
         end += sheet_encode::record_length(o);
-        i += 1;
     }
 }
 

@@ -38,15 +38,13 @@ fn names_apart(t: Sheet) -> bool
 {
     let n = t.count as usize;
     let mut named = [false; sheet_sets::FLAGS];
-    let mut i = 0;
-    while i < n {
+    for i in 0..n {
         let o = t.operators[i];
         if !sheet_sets::names_apart(named, o) {
             return false;
         }
         let next = sheet_sets::names_flagged(named, o);
         named = next;
-        i += 1;
     }
     true
 }
@@ -115,13 +113,11 @@ fn deal_counts(
     ensures { result ≡ dealt w n k 0 (ways k qs) }
 {
     let mut r = w;
-    let mut j = 0;
-    while j < k {
+    for j in 0..k {
         let q = qs[j];
         let m = deal_worst(n, k, j);
         let next = counted(r, q, m);
         r = next;
-        j += 1;
     }
     r
 }
@@ -131,11 +127,9 @@ fn gather_count(w: [u64; QUEUES], ps: [u8; sheet_operator::PLACES], k: usize) ->
     ensures { result ≡ sum (map (λ p. get_or w p 0) (ways k ps)) }
 {
     let mut n: u64 = 0;
-    let mut j = 0;
-    while j < k {
+    for j in 0..k {
         let p = ps[j];
         n += count_at(w, p);
-        j += 1;
     }
     n
 }
@@ -192,13 +186,11 @@ fn fed_good(inputs: usize, q: usize, n: u64) -> bool
 fn feed_good(inputs: u8, fed: [u64; QUEUES]) -> bool
     ensures { result ≡ feed_good inputs fed }
 {
-    let mut q = 0;
-    while q < QUEUES {
+    for q in 0..QUEUES {
         let n = fed[q];
         if !fed_good(inputs as usize, q, n) {
             return false;
         }
-        q += 1;
     }
     true
 }
@@ -209,12 +201,10 @@ fn sheet_counts(t: Sheet, fed: [u64; QUEUES]) -> [u64; QUEUES]
 {
     let n = t.count as usize;
     let mut w = fed;
-    let mut i = 0;
-    while i < n {
+    for i in 0..n {
         let o = t.operators[i];
         let next = operator_counts(w, o);
         w = next;
-        i += 1;
     }
     w
 }

@@ -48,11 +48,9 @@ fn numbers(body: &[u8]) -> [u64; counts::QUEUES]
     requires { length body.now ≡ 4 * QUEUES }
 {
     let mut r = [0u64; counts::QUEUES];
-    let mut q = 0;
-    while q < counts::QUEUES {
+    for q in 0..counts::QUEUES {
         let z = base_number::int_at(body, 4 * q);
         r[q] = base_number::bits(z) as u64;
-        q += 1;
     }
     r
 }
@@ -80,11 +78,9 @@ fn put_counts(out: &mut [u8], used: usize, ns: [u64; counts::QUEUES]) -> usize
     ensures { result < length out.new }
 {
     let mut at = put_text(&mut *out, used, b"worst");
-    let mut q = 0;
-    while q < counts::QUEUES {
+    for q in 0..counts::QUEUES {
         let n = ns[q];
         at = put_next(&mut *out, at, n);
-        q += 1;
     }
     put_byte(&mut *out, at, b'\n')
 }

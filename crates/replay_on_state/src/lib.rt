@@ -60,11 +60,9 @@ fn item(body: &[u8]) -> Item
     let mut x = Item {
         f: [0; run_store::FIELDS],
     };
-    let mut i = 0;
-    while i < run_store::FIELDS {
+    for i in 0..run_store::FIELDS {
         let z = base_number::int_at(body, 1 + 4 * i);
         x.f[i] = z;
-        i += 1;
     }
     x
 }

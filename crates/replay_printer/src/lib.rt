@@ -32,10 +32,8 @@ pub fn put_text(out: &mut [u8], used: usize, s: &[u8]) -> usize
     ensures { result < length out.new }
 {
     let mut at = used;
-    let mut i = 0;
-    while i < s.len() {
+    for i in 0..s.len() {
         at = put_byte(&mut *out, at, s[i]);
-        i += 1;
     }
     at
 }
@@ -131,13 +129,11 @@ fn hex_into(out: &mut [u8], used: usize, s: &[u8]) -> usize
     ensures { result < length out.new }
 {
     let mut at = used;
-    let mut i = 0;
-    while i < s.len() {
+    for i in 0..s.len() {
         let b = s[i];
         out[at] = glyph(b / 16);
         out[at + 1] = glyph(b % 16);
         at += 2;
-        i += 1;
     }
     at
 }
@@ -148,12 +144,10 @@ fn hex_by_byte(out: &mut [u8], used: usize, s: &[u8]) -> usize
     ensures { result < length out.new }
 {
     let mut at = used;
-    let mut i = 0;
-    while i < s.len() {
+    for i in 0..s.len() {
         let b = s[i];
         let next = put_byte(&mut *out, at, glyph(b / 16));
         at = put_byte(&mut *out, next, glyph(b % 16));
-        i += 1;
     }
     at
 }
@@ -195,11 +189,9 @@ pub fn put_item(out: &mut [u8], used: usize, x: Item) -> usize
     ensures { result < length out.new }
 {
     let mut at = used;
-    let mut i = 0;
-    while i < run_store::FIELDS {
+    for i in 0..run_store::FIELDS {
         let z = x.f[i];
         at = put_next_signed(&mut *out, at, z);
-        i += 1;
     }
     put_byte(&mut *out, at, b'\n')
 }

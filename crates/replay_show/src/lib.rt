@@ -24,11 +24,9 @@ fn show_counts(state: State, out: &mut [u8], used: usize) -> usize
     ensures { result < length out.new }
 {
     let mut at = put_text(&mut *out, used, b"counts");
-    let mut q = 0;
-    while q < run_machine::QUEUES {
+    for q in 0..run_machine::QUEUES {
         let n = state.counts[q];
         at = put_next(&mut *out, at, n as u64);
-        q += 1;
     }
     put_byte(&mut *out, at, b'\n')
 }
@@ -38,11 +36,9 @@ fn show_variables(state: State, out: &mut [u8], used: usize) -> usize
     ensures { result < length out.new }
 {
     let mut at = put_text(&mut *out, used, b"variables");
-    let mut v = 0;
-    while v < run_machine::VARIABLES {
+    for v in 0..run_machine::VARIABLES {
         let z = state.vars[v];
         at = put_next_signed(&mut *out, at, z);
-        v += 1;
     }
     put_byte(&mut *out, at, b'\n')
 }
@@ -52,11 +48,9 @@ fn show_store(store: &[i32], out: &mut [u8], used: usize) -> usize
     ensures { result < length out.new }
 {
     let mut at = used;
-    let mut i = 0;
-    while i < store.len() {
+    for i in 0..store.len() {
         let z = store[i];
         at = show_number(i, z, &mut *out, at);
-        i += 1;
     }
     at
 }

@@ -42,10 +42,8 @@ fn to_front(input: &mut [u8], w: Window) -> usize
 {
     let at = w.at;
     let n = w.end - at;
-    let mut i = 0;
-    while i < n {
+    for i in 0..n {
         input[i] = input[at + i];
-        i += 1;
     }
     n
 }

@@ -35,11 +35,9 @@ fn all_fallen(m: u8, qs: [u8; sheet_operator::PLACES]) -> [u8; sheet_operator::P
     ensures { result ≡ map (fallen m) qs }
 {
     let mut r = [0u8; sheet_operator::PLACES];
-    let mut k = 0;
-    while k < sheet_operator::PLACES {
+    for k in 0..sheet_operator::PLACES {
         let q = qs[k];
         r[k] = fallen(m, q);
-        k += 1;
     }
     r
 }
@@ -75,11 +73,9 @@ fn joined_steps(
     ensures { result ≡ pad PLACES no_step (steps_in n ss ++ steps_in m ts) }
 {
     let mut r = ss;
-    let mut k = 0;
-    while k < m {
+    for k in 0..m {
         let at = n + k;
         r[at] = ts[k];
-        k += 1;
     }
     r
 }
@@ -129,12 +125,10 @@ fn closed_up(
 {
     let mut r = [sheet_decode::NO_OPERATOR; sheet::OPERATORS];
     let left = n - 1;
-    let mut k = 0;
-    while k < left {
+    for k in 0..left {
         let at = skip(j, k);
         let o = operators[at];
         r[k] = lowered(m, o);
-        k += 1;
     }
     r
 }

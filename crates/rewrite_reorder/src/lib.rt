@@ -79,13 +79,11 @@ fn steps_left(s: Step, o: Operator) -> bool
     ensures { result ≡ all (step_leaves s) (steps_in o.count o.steps) }
 {
     let n = o.count as usize;
-    let mut k = 0;
-    while k < n {
+    for k in 0..n {
         let t = o.steps[k];
         if !step_left(s, t) {
             return false;
         }
-        k += 1;
     }
     true
 }
@@ -96,13 +94,11 @@ fn leaves(o: Operator, p: Operator) -> bool
     ensures { result ≡ leaves (steps_in o.count o.steps) (steps_in p.count p.steps) }
 {
     let n = o.count as usize;
-    let mut k = 0;
-    while k < n {
+    for k in 0..n {
         let s = o.steps[k];
         if !steps_left(s, p) {
             return false;
         }
-        k += 1;
     }
     true
 }
@@ -121,13 +117,11 @@ fn touches_none(o: Operator) -> bool
     ensures { result ≡ all touches_none (steps_in o.count o.steps) }
 {
     let n = o.count as usize;
-    let mut k = 0;
-    while k < n {
+    for k in 0..n {
         let t = o.steps[k];
         if touches_variable(t) {
             return false;
         }
-        k += 1;
     }
     true
 }

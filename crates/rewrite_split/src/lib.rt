@@ -26,10 +26,8 @@ fn numbers_from(q: u8, n: usize) -> [u8; sheet_operator::PLACES]
     ensures { result ≡ pad PLACES 0 (build n (λ j. q + j)) }
 {
     let mut r = [0; sheet_operator::PLACES];
-    let mut j = 0;
-    while j < n {
+    for j in 0..n {
         r[j] = q + (j as u8);
-        j += 1;
     }
     r
 }
@@ -124,13 +122,11 @@ fn parts(t: Sheet, i: usize, k: u8) -> [Operator; sheet::OPERATORS]
     let queues = t.queues;
     let variables = t.variables;
     let mut r = t.operators;
-    let mut m = i;
-    while m < sheet::OPERATORS {
+    for m in i..sheet::OPERATORS {
         let from = source(i, k as usize, m);
         let o = t.operators[from];
         let p = piece(o, queues, variables, k, m - i);
         r[m] = p;
-        m += 1;
     }
     r
 }
@@ -165,13 +161,11 @@ fn steps_free(ss: [Step; sheet_operator::PLACES], n: usize) -> bool
     requires { n ≤ PLACES }
     ensures { result ≡ all (λ t. touches_none t && writes_some t) (steps_in n ss) }
 {
-    let mut j = 0;
-    while j < n {
+    for j in 0..n {
         let t = ss[j];
         if !step_free(t) {
             return false;
         }
-        j += 1;
     }
     true
 }

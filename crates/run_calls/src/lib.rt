@@ -121,8 +121,7 @@ pub fn run_known(t: Sheet, state: State, store: &mut [i32], list: &[u8]) -> RunE
     let mut vars = state.vars;
     let mut fired: usize = 0;
     let mut skipped: usize = 0;
-    let mut k: usize = 0;
-    while k < list.len() {
+    for k in 0..list.len() {
         let q = list[k];
         let i = run_reader::reader_at(rs, q);
         let o = t.operators[i % sheet::OPERATORS];
@@ -137,7 +136,6 @@ pub fn run_known(t: Sheet, state: State, store: &mut [i32], list: &[u8]) -> RunE
         let n = one_if_done(a);
         fired += n;
         skipped += 1 - n;
-        k += 1;
     }
     RunEnd {
         answer: Answer::Done,

@@ -154,11 +154,9 @@ fn run_line(o: Operator, x: Flow) -> Flow
 {
     let n = o.count as usize;
     let mut y = x;
-    let mut i: usize = 0;
-    while i < n {
+    for i in 0..n {
         let s = o.steps[i];
         y = apply(s, y);
-        i += 1;
     }
     y
 }

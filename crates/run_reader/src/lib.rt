@@ -26,11 +26,9 @@ fn with_reader(readers: [u8; run_machine::QUEUES], o: Operator, i: u8) -> [u8; r
     let s = sheet_operator::shape_of(k, o.count);
     let n = s.ins as usize;
     let mut r = readers;
-    let mut j = 0;
-    while j < n {
+    for j in 0..n {
         let q = o.ins[j] as usize;
         r[q] = i;
-        j += 1;
     }
     r
 }

@@ -18,12 +18,10 @@ fn none_from(counts: [u8; run_machine::QUEUES], from: usize) -> bool
     requires { from ≤ QUEUES }
     ensures { result ≡ all (λ n. eqb n 0) (drop from counts) }
 {
-    let mut i = from;
-    while i < run_machine::QUEUES {
+    for i in from..run_machine::QUEUES {
         if counts[i] != 0 {
             return false;
         }
-        i += 1;
     }
     true
 }
@@ -33,13 +31,11 @@ fn cursors_good(t: Sheet, vars: [i32; run_machine::VARIABLES]) -> bool
     ensures { result ≡ all (λ o. cursor_good o vars) (view_sheet t).ops }
 {
     let n = t.count as usize;
-    let mut i = 0;
-    while i < n {
+    for i in 0..n {
         let o = t.operators[i];
         if !run_effect::cursor_good(o, vars) {
             return false;
         }
-        i += 1;
     }
     true
 }

@@ -29,10 +29,8 @@ pub struct Item {
 pub fn clear(store: &mut [i32])
     ensures { store.new ≡ replicate (length store.old) (pos 0) }
 {
-    let mut at = 0;
-    while at < store.len() {
+    for at in 0..store.len() {
         store[at] = 0;
-        at += 1;
     }
 }
 
@@ -42,10 +40,8 @@ fn push_part(part: &mut [i32], count: usize, x: Item)
     ensures { part.new ≡ pushed part.old count x }
 {
     let at = FIELDS * count;
-    let mut i = 0;
-    while i < FIELDS {
+    for i in 0..FIELDS {
         part[at + i] = x.f[i];
-        i += 1;
     }
 }
 
@@ -65,10 +61,8 @@ fn take_part(part: &mut [i32])
     ensures { part.new ≡ without_oldest part.old }
 {
     let last = PART - FIELDS;
-    let mut to = 0;
-    while to < last {
+    for to in 0..last {
         part[to] = part[to + FIELDS];
-        to += 1;
     }
     clear(&mut part[last..PART]);
 }
@@ -89,10 +83,8 @@ fn first_item(part: &[i32]) -> Item
     ensures { result ≡ first_of part.now }
 {
     let mut y = Item { f: [0i32; FIELDS] };
-    let mut field = 0;
-    while field < FIELDS {
+    for field in 0..FIELDS {
         y.f[field] = part[field];
-        field += 1;
     }
     y
 }
@@ -113,13 +105,11 @@ pub fn zeros_from(part: &[i32], from: usize) -> bool
     ensures { result ≡ zeros_past part.now from }
 {
     let mut clean = true;
-    let mut i = from;
-    while i < part.len() {
+    for i in from..part.len() {
         let v = part[i];
         if v != 0 {
             clean = false;
         }
-        i += 1;
     }
     clean
 }
@@ -140,15 +130,13 @@ pub fn quiet(store: &[i32], counts: [u8; QUEUES]) -> bool
     requires { length store.now ≡ STORE }
     ensures { result ≡ quiet_from store.now 0 counts }
 {
-    let mut q = 0;
-    while q < QUEUES {
+    for q in 0..QUEUES {
         let from = PART * q;
         let to = from + PART;
         let n = counts[q] as usize;
         if !quiet_queue(&store[from..to], n) {
             return false;
         }
-        q += 1;
     }
     true
 }

@@ -62,8 +62,7 @@ fn judge_operators(t: Sheet) -> Judged
     let queues = t.queues;
     let variables = t.variables;
     let mut seen = sheet_judge::inputs_seen(t.inputs);
-    let mut i = 0;
-    while i < n {
+    for i in 0..n {
         let o = t.operators[i];
         let spot = (i + 1) as u8;
         let number = sheet_operator::memory_number(o);
@@ -77,7 +76,6 @@ fn judge_operators(t: Sheet) -> Judged
         }
         let next = a.seen;
         seen = next;
-        i += 1;
     }
     Judged {
         number: 0,
@@ -100,13 +98,11 @@ fn vacant_from(t: Sheet) -> bool
     ensures { result ≡ vacant_from t }
 {
     let n = t.count as usize;
-    let mut i = 0;
-    while i < OPERATORS {
+    for i in 0..OPERATORS {
         let o = t.operators[i];
         if !vacant_past(n, i, o) {
             return false;
         }
-        i += 1;
     }
     true
 }

@@ -120,11 +120,9 @@ fn steps_at(s: &[u8], at: usize, n: usize) -> [Step; sheet_operator::PLACES]
     ensures { result ≡ pad PLACES no_step (build n (λ k. step_of (drop (at + STEP_BYTES * k) s.now))) }
 {
     let mut steps = [sheet_step::NO_STEP; sheet_operator::PLACES];
-    let mut i = 0;
-    while i < n {
+    for i in 0..n {
         let t = sheet_step::step_at(s, at + sheet_step::STEP_BYTES * i);
         steps[i] = t;
-        i += 1;
     }
     steps
 }
@@ -134,10 +132,8 @@ fn ways_at(s: &[u8], at: usize, n: usize) -> [u8; sheet_operator::PLACES]
     ensures { result ≡ pad PLACES 0 (build n (λ k. get_or s.now (at + k) 0)) }
 {
     let mut queues = [0u8; sheet_operator::PLACES];
-    let mut i = 0;
-    while i < n {
+    for i in 0..n {
         queues[i] = s[at + i];
-        i += 1;
     }
     queues
 }

@@ -54,11 +54,9 @@ fn put_steps(s: &mut [u8], at: usize, steps: [Step; sheet_operator::PLACES], n: 
     requires { (n ≤ PLACES) × (at + STEP_BYTES * n ≤ length s.old) }
     ensures { s.new ≡ sets s.old at (chain step_bytes (steps_in n steps)) }
 {
-    let mut i = 0;
-    while i < n {
+    for i in 0..n {
         let t = steps[i];
         sheet_step::put_step(s, at + sheet_step::STEP_BYTES * i, t);
-        i += 1;
     }
 }
 
@@ -66,10 +64,8 @@ fn put_ways(s: &mut [u8], at: usize, queues: [u8; sheet_operator::PLACES], n: us
     requires { (n ≤ PLACES) × (at + n ≤ length s.old) }
     ensures { s.new ≡ sets s.old at (ways n queues) }
 {
-    let mut i = 0;
-    while i < n {
+    for i in 0..n {
         s[at + i] = queues[i];
-        i += 1;
     }
 }
 

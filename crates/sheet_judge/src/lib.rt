@@ -44,13 +44,11 @@ fn ins_good(ps: [u8; sheet_operator::PLACES], n: usize, queues: u8, defined: [bo
     requires { n ≤ PLACES }
     ensures { result ≡ all (λ p. ltb p queues && has defined p) (ways n ps) }
 {
-    let mut j = 0;
-    while j < n {
+    for j in 0..n {
         let p = ps[j];
         if !in_good(p, queues, defined) {
             return false;
         }
-        j += 1;
     }
     true
 }
@@ -59,13 +57,11 @@ fn outs_good(qs: [u8; sheet_operator::PLACES], n: usize, queues: u8) -> bool
     requires { n ≤ PLACES }
     ensures { result ≡ all (λ q. ltb q queues) (ways n qs) }
 {
-    let mut j = 0;
-    while j < n {
+    for j in 0..n {
         let q = qs[j];
         if queues <= q {
             return false;
         }
-        j += 1;
     }
     true
 }
@@ -220,12 +216,10 @@ pub fn all_defined(seen: Seen, queues: u8) -> bool
     ensures { result ≡ whole queues (known_by seen) }
 {
     let defined = seen.defined;
-    let mut q = 0;
-    while q < queues {
+    for q in 0..queues {
         if !sheet_sets::flag(defined, q) {
             return false;
         }
-        q += 1;
     }
     true
 }
@@ -237,11 +231,9 @@ pub fn inputs_seen(inputs: u8) -> Seen
 {
     let none = [false; FLAGS];
     let mut defined = none;
-    let mut q = 0;
-    while q < inputs {
+    for q in 0..inputs {
         let i = q as usize;
         defined[i] = true;
-        q += 1;
     }
     Seen {
         defined,

@@ -10,13 +10,11 @@ pub fn steps_variables_good(ss: [Step; sheet_operator::PLACES], n: usize, variab
     requires { n ≤ PLACES }
     ensures { result ≡ all (step_variable variables) (steps_in n ss) }
 {
-    let mut j = 0;
-    while j < n {
+    for j in 0..n {
         let t = ss[j];
         if !sheet_step::variable_good(t, variables) {
             return false;
         }
-        j += 1;
     }
     true
 }
@@ -25,13 +23,11 @@ pub fn steps_places_good(ss: [Step; sheet_operator::PLACES], n: usize) -> bool
     requires { n ≤ PLACES }
     ensures { result ≡ all step_places (steps_in n ss) }
 {
-    let mut j = 0;
-    while j < n {
+    for j in 0..n {
         let t = ss[j];
         if !sheet_step::places_good(t) {
             return false;
         }
-        j += 1;
     }
     true
 }

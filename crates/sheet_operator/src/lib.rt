@@ -101,13 +101,11 @@ fn zero_past(n: usize, j: usize, x: u8) -> bool
 fn zeros_from(n: usize, l: [u8; PLACES]) -> bool
     ensures { result ≡ zeros_from n l }
 {
-    let mut j = 0;
-    while j < PLACES {
+    for j in 0..PLACES {
         let x = l[j];
         if !zero_past(n, j, x) {
             return false;
         }
-        j += 1;
     }
     true
 }
@@ -125,13 +123,11 @@ fn blank_past(n: usize, j: usize, t: Step) -> bool
 fn blanks_from(n: usize, l: [Step; PLACES]) -> bool
     ensures { result ≡ blanks_from n l }
 {
-    let mut j = 0;
-    while j < PLACES {
+    for j in 0..PLACES {
         let t = l[j];
         if !blank_past(n, j, t) {
             return false;
         }
-        j += 1;
     }
     true
 }

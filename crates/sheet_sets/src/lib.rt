@@ -41,11 +41,9 @@ pub fn all_flagged(s: [bool; FLAGS], qs: [u8; sheet_operator::PLACES], n: usize)
     ensures { has result ≡ (λ k. member k (ways n qs) || has s k) }
 {
     let mut r = s;
-    let mut j = 0;
-    while j < n {
+    for j in 0..n {
         let q = qs[j] as usize;
         r[q] = true;
-        j += 1;
     }
     r
 }
@@ -56,14 +54,12 @@ pub fn is_fresh(s: [bool; FLAGS], qs: [u8; sheet_operator::PLACES], n: usize) ->
     ensures { result ≡ fresh (has s) (ways n qs) }
 {
     let mut t = s;
-    let mut j = 0;
-    while j < n {
+    for j in 0..n {
         let q = qs[j] as usize;
         if t[q] {
             return false;
         }
         t[q] = true;
-        j += 1;
     }
     true
 }

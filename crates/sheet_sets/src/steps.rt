@@ -23,13 +23,11 @@ pub fn steps_apart(s: [bool; crate::FLAGS], ss: [Step; sheet_operator::PLACES], 
     requires { n ≤ PLACES }
     ensures { result ≡ all (λ t. all (λ v. not (has s v)) (step_names t)) (steps_in n ss) }
 {
-    let mut j = 0;
-    while j < n {
+    for j in 0..n {
         let t = ss[j];
         if !step_apart(s, t) {
             return false;
         }
-        j += 1;
     }
     true
 }
@@ -56,12 +54,10 @@ pub fn steps_flagged(
     ensures { has result ≡ (λ k. member k (chain step_names (steps_in n ss)) || has s k) }
 {
     let mut r = s;
-    let mut j = 0;
-    while j < n {
+    for j in 0..n {
         let t = ss[j];
         let next = step_flagged(r, t);
         r = next;
-        j += 1;
     }
     r
 }

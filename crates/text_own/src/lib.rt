@@ -30,12 +30,10 @@ pub fn outputs(t: Sheet) -> KeptNames
 {
     let readers = run_reader::readers(t);
     let mut names = text_lists::no_names();
-    let mut q: u8 = 0;
-    while q < t.queues {
+    for q in 0..t.queues {
         let i = run_reader::reader_at(readers, q);
         let next = with_unread(names, q, i < sheet::OPERATORS);
         names = next;
-        q += 1;
     }
     names
 }
@@ -45,11 +43,9 @@ pub fn inputs(n: u8) -> KeptNames
     ensures { result ≡ kept_of (build n (λ (q : ℕ). q)) }
 {
     let mut names = text_lists::no_names();
-    let mut q: u8 = 0;
-    while q < n {
+    for q in 0..n {
         let next = text_lists::with_name(names, q);
         names = next;
-        q += 1;
     }
     names
 }
@@ -63,12 +59,10 @@ pub fn same_names(a: KeptNames, b: KeptNames) -> bool
     }
     let ps = a.queues;
     let qs = b.queues;
-    let mut k: usize = 0;
-    while k < text_lists::NAMES {
+    for k in 0..text_lists::NAMES {
         if ps[k] != qs[k] {
             return false;
         }
-        k += 1;
     }
     true
 }

@@ -91,11 +91,9 @@ pub fn put_steps(s: &mut [u8], at: usize, steps: [Step; sheet_operator::PLACES],
     ensures { PutsUpTo (BAR_TEXT * n) (printed (line_tokens (steps_in n steps))) s.old at s.new result }
 {
     let mut end = at;
-    let mut i = 0;
-    while i < n {
+    for i in 0..n {
         let t = steps[i];
         end = put_next(s, end, i == 0, t);
-        i += 1;
     }
     end
 }
@@ -118,11 +116,9 @@ pub fn put_ways(s: &mut [u8], at: usize, queues: [u8; sheet_operator::PLACES], n
     ensures { PutsUpTo (WAY_TEXT * n) (printed (ways_tokens (ways n queues))) s.old at s.new result }
 {
     let mut end = at;
-    let mut i = 0;
-    while i < n {
+    for i in 0..n {
         let q = queues[i];
         end = put_way(s, end, i == 0, q);
-        i += 1;
     }
     end
 }

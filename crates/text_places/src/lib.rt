@@ -38,11 +38,9 @@ fn locate(s: &[u8]) -> Place
     ensures { placed result ≡ place_after (1, 1) s.now }
 {
     let mut p = Place { line: 1, column: 1 };
-    let mut i = 0;
-    while i < s.len() {
+    for i in 0..s.len() {
         let b = s[i];
         p = past(p, b);
-        i += 1;
     }
     p
 }

@@ -41,10 +41,8 @@ fn put_names(s: &mut [u8], at: usize, n: KeptNames) -> usize
     let queues = n.queues;
     let count = n.count;
     let mut end = at;
-    let mut i: u8 = 0;
-    while i < count {
+    for i in 0..count {
         end = put_name(s, end, i == 0, queues[i as usize]);
-        i += 1;
     }
     end
 }
@@ -93,11 +91,9 @@ fn put_items(s: &mut [u8], at: usize, t: Sheet) -> usize
 {
     let n = t.count as usize;
     let mut end = at;
-    let mut i = 0;
-    while i < n {
+    for i in 0..n {
         let o = t.operators[i];
         end = put_item(s, end, o);
-        i += 1;
     }
     end
 }

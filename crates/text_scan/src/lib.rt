@@ -17,12 +17,10 @@ pub struct Cursor {
 fn among(b: u8, ms: &[u8]) -> bool
     ensures { result ≡ member b ms.now }
 {
-    let mut i = 0;
-    while i < ms.len() {
+    for i in 0..ms.len() {
         if ms[i] == b {
             return true;
         }
-        i += 1;
     }
     false
 }
@@ -159,10 +157,8 @@ pub fn spell(s: &[u8], c: Cursor, w: &[u8]) -> Cursor
     ensures { Goes s.now c (λ _. spell w.now) result }
 {
     let mut d = c;
-    let mut i = 0;
-    while i < w.len() {
+    for i in 0..w.len() {
         d = letter(s, d, w[i]);
-        i += 1;
     }
     Cursor {
         ok: d.ok,

@@ -25,10 +25,8 @@ fn highest(m: u8, l: [u8; sheet_operator::PLACES]) -> u8
     ensures { result ≡ highest_from m (ways PLACES l) }
 {
     let mut h = m;
-    let mut i = 0;
-    while i < sheet_operator::PLACES {
+    for i in 0..sheet_operator::PLACES {
         h = larger(h, l[i]);
-        i += 1;
     }
     h
 }
@@ -39,10 +37,8 @@ fn highest_input(n: KeptNames) -> u8
 {
     let l = n.queues;
     let mut h = 0;
-    let mut i = 0;
-    while i < MOST {
+    for i in 0..MOST {
         h = larger(h, l[i]);
-        i += 1;
     }
     h
 }
@@ -73,11 +69,9 @@ fn highest_in(n: KeptNames, h: HeldOperators) -> u8
 {
     let mut m = highest_input(n);
     let end = placed(h.count);
-    let mut i = 0;
-    while i < end {
+    for i in 0..end {
         let o = h.operators[i];
         m = highest_place(m, o);
-        i += 1;
     }
     m
 }

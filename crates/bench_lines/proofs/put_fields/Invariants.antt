@@ -9,6 +9,3 @@ use Rattle.bench_lines.proofs.put_fields.Given as goal
 
 abbrev pub invariant-loop-i : goal.invariant-loop-i
 invariant-loop-i l = (l.i ≤ length l.fields) × Piece (SPACED * l.i) (chain spaced (take l.i l.fields)) l.initial.s l.at l.s l.end
-
-abbrev pub decreases-loop-i : goal.decreases-loop-i
-decreases-loop-i l = length l.fields - l.i

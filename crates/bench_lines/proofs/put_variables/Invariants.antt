@@ -8,6 +8,3 @@ use Rattle.bench_lines.proofs.put_variables.Given as goal
 
 abbrev pub invariant-loop-i : goal.invariant-loop-i
 invariant-loop-i l = (l.i ≤ l.n) × Piece (LINE * l.i) (variable_lines 0 (take l.i l.vars)) l.initial.s l.at l.s l.end
-
-abbrev pub decreases-loop-i : goal.decreases-loop-i
-decreases-loop-i l = l.n - l.i

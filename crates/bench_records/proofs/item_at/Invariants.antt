@@ -8,6 +8,3 @@ use Rattle.bench_records.proofs.item_at.Given as goal
 
 abbrev pub invariant-loop-i : goal.invariant-loop-i
 invariant-loop-i l = (l.i ≤ FIELDS) × (l.x.f ≡ fields_to l.s l.at l.i)
-
-abbrev pub decreases-loop-i : goal.decreases-loop-i
-decreases-loop-i l = FIELDS - l.i

@@ -6,6 +6,3 @@ use Rattle.bench_report.proofs.put_outputs.Given as goal
 
 abbrev pub invariant-loop-q : goal.invariant-loop-q
 invariant-loop-q l = Printing l.initial.s l.at l.store l.rs l.counts l.n l.s l.end l.q
-
-abbrev pub decreases-loop-q : goal.decreases-loop-q
-decreases-loop-q l = l.n - l.q

@@ -6,6 +6,3 @@ use Rattle.codec_read.proofs.read_operators.Given as goal
 
 abbrev pub invariant-loop-i : goal.invariant-loop-i
 invariant-loop-i l = ReadTo l.s l.n l.queues l.variables l.t l.seen l.at l.i
-
-abbrev pub decreases-loop-i : goal.decreases-loop-i
-decreases-loop-i l = l.n - l.i

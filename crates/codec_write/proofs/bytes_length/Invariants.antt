@@ -10,6 +10,3 @@ use Rattle.codec_write.proofs.bytes_length.Given as goal
 
 abbrev pub invariant-loop-i : goal.invariant-loop-i
 invariant-loop-i l = (l.i ≤ l.t.count) × (l.sum ≡ length (bytes_to l.t l.i)) × (l.sum ≤ HEAD_BYTES + RECORD_MOST * l.i)
-
-abbrev pub decreases-loop-i : goal.decreases-loop-i
-decreases-loop-i l = l.t.count - l.i

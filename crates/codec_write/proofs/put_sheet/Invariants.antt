@@ -15,6 +15,3 @@ abbrev pub invariant-loop-i : goal.invariant-loop-i
 invariant-loop-i l =
     (l.i ≤ l.t.count) × (l.end ≡ length (bytes_to l.t l.i)) × (l.end ≤ HEAD_BYTES + RECORD_MOST * l.i) × (length l.buffer ≡ length l.initial.buffer)
     × (l.buffer ≡ sets l.initial.buffer HEAD_BYTES (chain op_bytes (view_to l.t l.i).ops))
-
-abbrev pub decreases-loop-i : goal.decreases-loop-i
-decreases-loop-i l = l.t.count - l.i

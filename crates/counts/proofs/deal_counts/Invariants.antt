@@ -11,6 +11,3 @@ abbrev pub invariant-loop-j : goal.invariant-loop-j
 invariant-loop-j l =
     (l.j ≤ l.k)
     × (dealt l.r l.n l.k l.j (rest l.k l.j (λ (x : ℕ). get_or l.qs x 0)) ≡ dealt l.initial.r l.n l.k 0 (ways l.k l.qs))
-
-abbrev pub decreases-loop-j : goal.decreases-loop-j
-decreases-loop-j l = l.k - l.j

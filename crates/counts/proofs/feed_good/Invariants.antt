@@ -12,6 +12,3 @@ abbrev pub invariant-loop-q : goal.invariant-loop-q
 invariant-loop-q l =
     (l.q ≤ QUEUES)
     × (all (λ (q : ℕ). cond (ltb q l.inputs) (leb (get_or l.fed q 0) ROOM) (eqb (get_or l.fed q 0) 0)) (build l.q (λ (k : ℕ). k)) ≡ true)
-
-abbrev pub decreases-loop-q : goal.decreases-loop-q
-decreases-loop-q l = QUEUES - l.q

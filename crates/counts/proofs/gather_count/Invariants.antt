@@ -9,6 +9,3 @@ use Rattle.counts.proofs.gather_count.Given as goal
 
 abbrev pub invariant-loop-j : goal.invariant-loop-j
 invariant-loop-j l = (l.j ≤ l.k) × (l.n ≡ sum (map (λ (p : ℕ). get_or l.w p 0) (ways l.j l.ps))) × (l.n ≤ l.j * 2 ^ 60)
-
-abbrev pub decreases-loop-j : goal.decreases-loop-j
-decreases-loop-j l = l.k - l.j

@@ -12,6 +12,3 @@ use Rattle.counts.proofs.names_apart.Given as goal
 abbrev pub invariant-loop-i : goal.invariant-loop-i
 invariant-loop-i l =
     (l.i ≤ l.t.count) × (calm_from (has l.named) (rest l.t.count l.i (λ (k : ℕ). view (op_at l.t k))) ≡ is_calm (view_sheet l.t))
-
-abbrev pub decreases-loop-i : goal.decreases-loop-i
-decreases-loop-i l = l.t.count - l.i

@@ -14,6 +14,3 @@ invariant-loop-i l =
     (l.i ≤ l.t.count)
     × (worst_from l.w (rest l.t.count l.i (λ (k : ℕ). view (op_at l.t k))) ≡ worst_from l.initial.w (view_sheet l.t).ops)
     × Within (bound l.i) l.w
-
-abbrev pub decreases-loop-i : goal.decreases-loop-i
-decreases-loop-i l = l.t.count - l.i

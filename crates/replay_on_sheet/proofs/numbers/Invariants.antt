@@ -5,6 +5,3 @@ use Rattle.replay_on_sheet.proofs.numbers.Given as goal
 
 abbrev pub invariant-loop-q : goal.invariant-loop-q
 invariant-loop-q l = l.q ≤ 24
-
-abbrev pub decreases-loop-q : goal.decreases-loop-q
-decreases-loop-q l = 24 - l.q

@@ -6,6 +6,3 @@ use Rattle.replay_on_state.proofs.item.Given as goal
 
 abbrev pub invariant-loop-i : goal.invariant-loop-i
 invariant-loop-i l = l.i ≤ FIELDS
-
-abbrev pub decreases-loop-i : goal.decreases-loop-i
-decreases-loop-i l = FIELDS - l.i

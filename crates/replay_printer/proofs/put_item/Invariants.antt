@@ -7,6 +7,3 @@ use Rattle.replay_printer.proofs.put_item.Given as goal
 
 abbrev pub invariant-loop-i : goal.invariant-loop-i
 invariant-loop-i l = (l.i ≤ 4) × (l.at < length l.out) × (length l.out ≡ length l.initial.out)
-
-abbrev pub decreases-loop-i : goal.decreases-loop-i
-decreases-loop-i l = 4 - l.i

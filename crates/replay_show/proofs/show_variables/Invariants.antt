@@ -7,6 +7,3 @@ use Rattle.replay_show.proofs.show_variables.Given as goal
 
 abbrev pub invariant-loop-v : goal.invariant-loop-v
 invariant-loop-v l = (l.v ≤ 16) × (l.at < length l.out) × (length l.out ≡ length l.initial.out)
-
-abbrev pub decreases-loop-v : goal.decreases-loop-v
-decreases-loop-v l = 16 - l.v

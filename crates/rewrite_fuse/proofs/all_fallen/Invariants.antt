@@ -13,6 +13,3 @@ fallen_to m qs i = pad PLACES 0 (build i (λ (k : ℕ). fallen m (get_or qs k 0)
 
 abbrev pub invariant-loop-k : goal.invariant-loop-k
 invariant-loop-k l = (l.k ≤ PLACES) × (l.r ≡ fallen_to l.m l.qs l.k)
-
-abbrev pub decreases-loop-k : goal.decreases-loop-k
-decreases-loop-k l = PLACES - l.k

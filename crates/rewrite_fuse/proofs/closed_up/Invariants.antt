@@ -16,6 +16,3 @@ closed_to j m os i = pad OPERATORS no_operator (build i (λ (k : ℕ). lowered_i
 
 abbrev pub invariant-loop-k : goal.invariant-loop-k
 invariant-loop-k l = (l.k ≤ l.n - 1) × (l.r ≡ closed_to l.j l.m l.operators l.k)
-
-abbrev pub decreases-loop-k : goal.decreases-loop-k
-decreases-loop-k l = l.n - 1 - l.k

@@ -13,6 +13,3 @@ joined_to ss n ts k = pad PLACES no_step (steps_in n ss ++ steps_in k ts)
 
 abbrev pub invariant-loop-k : goal.invariant-loop-k
 invariant-loop-k l = (l.k ≤ l.m) × (l.r ≡ joined_to l.initial.r l.n l.ts l.k)
-
-abbrev pub decreases-loop-k : goal.decreases-loop-k
-decreases-loop-k l = l.m - l.k

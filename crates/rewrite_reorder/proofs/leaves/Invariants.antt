@@ -15,6 +15,3 @@ leaving p s = all (step_leaves s) (steps_in p.count p.steps)
 
 abbrev pub invariant-loop-k : goal.invariant-loop-k
 invariant-loop-k l = (l.k ≤ l.o.count) × (all (leaving l.p) (steps_in l.k l.o.steps) ≡ true)
-
-abbrev pub decreases-loop-k : goal.decreases-loop-k
-decreases-loop-k l = l.o.count - l.k

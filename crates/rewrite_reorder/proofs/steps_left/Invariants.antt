@@ -9,6 +9,3 @@ use Rattle.rewrite_reorder.proofs.steps_left.Given as goal
 
 abbrev pub invariant-loop-k : goal.invariant-loop-k
 invariant-loop-k l = (l.k ≤ l.o.count) × (all (step_leaves l.s) (steps_in l.k l.o.steps) ≡ true)
-
-abbrev pub decreases-loop-k : goal.decreases-loop-k
-decreases-loop-k l = l.o.count - l.k

@@ -9,6 +9,3 @@ use Rattle.rewrite_reorder.proofs.touches_none.Given as goal
 
 abbrev pub invariant-loop-k : goal.invariant-loop-k
 invariant-loop-k l = (l.k ≤ l.o.count) × (all touches_none (steps_in l.k l.o.steps) ≡ true)
-
-abbrev pub decreases-loop-k : goal.decreases-loop-k
-decreases-loop-k l = l.o.count - l.k

@@ -11,6 +11,3 @@ from q j = pad PLACES 0 (build j (λ (i : ℕ). q + i))
 
 abbrev pub invariant-loop-j : goal.invariant-loop-j
 invariant-loop-j l = (l.j ≤ l.n) × (l.r ≡ from l.q l.j)
-
-abbrev pub decreases-loop-j : goal.decreases-loop-j
-decreases-loop-j l = l.n - l.j

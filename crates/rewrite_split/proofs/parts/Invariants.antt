@@ -9,6 +9,3 @@ use Rattle.rewrite_split.proofs.parts.Given as goal
 
 abbrev pub invariant-loop-m : goal.invariant-loop-m
 invariant-loop-m l = (l.i ≤ l.m) × ((s : Splits l.t l.i l.k) (h : HeldSheet l.t) → l.r ≡ filled l.t l.i l.k s h l.m)
-
-abbrev pub decreases-loop-m : goal.decreases-loop-m
-decreases-loop-m l = OPERATORS - l.m

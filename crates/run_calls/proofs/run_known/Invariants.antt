@@ -9,6 +9,3 @@ use Rattle.run_calls.proofs.run_known.Given as goal
 abbrev pub invariant-loop-k : goal.invariant-loop-k
 invariant-loop-k l =
     Running l.t (state_with l.initial.counts l.initial.vars) l.initial.store l.list (state_with l.counts l.vars) l.store l.fired l.skipped l.k
-
-abbrev pub decreases-loop-k : goal.decreases-loop-k
-decreases-loop-k l = length l.list - l.k

@@ -8,6 +8,3 @@ use Rattle.run_effect.proofs.run_line.Given as goal
 
 abbrev pub invariant-loop-i : goal.invariant-loop-i
 invariant-loop-i l = (l.i ≤ l.n) × (l.y ≡ lined (steps_in l.i l.o.steps) l.initial.y)
-
-abbrev pub decreases-loop-i : goal.decreases-loop-i
-decreases-loop-i l = l.n - l.i

@@ -7,6 +7,3 @@ use Rattle.run_reader.proofs.with_reader.Given as goal
 
 abbrev pub invariant-loop-j : goal.invariant-loop-j
 invariant-loop-j l = (l.j ≤ l.n) × (l.r ≡ readers_with l.initial.r (ways l.j l.o.ins) l.i)
-
-abbrev pub decreases-loop-j : goal.decreases-loop-j
-decreases-loop-j l = l.n - l.j

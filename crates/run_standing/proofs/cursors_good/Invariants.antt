@@ -17,6 +17,3 @@ test vars o = cursor_good o vars
 
 abbrev pub invariant-loop-i : goal.invariant-loop-i
 invariant-loop-i l = (l.i ≤ l.n) × (all (test l.vars) (build l.i (λ (k : ℕ). view (op_at l.t k))) ≡ true)
-
-abbrev pub decreases-loop-i : goal.decreases-loop-i
-decreases-loop-i l = l.n - l.i

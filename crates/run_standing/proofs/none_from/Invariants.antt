@@ -14,6 +14,3 @@ none_left cs i = all (λ (n : ℕ). eqb n 0) (drop i cs)
 
 abbrev pub invariant-loop-i : goal.invariant-loop-i
 invariant-loop-i l = (l.i ≤ QUEUES) × (none_left l.counts l.from ≡ none_left l.counts l.i)
-
-abbrev pub decreases-loop-i : goal.decreases-loop-i
-decreases-loop-i l = QUEUES - l.i

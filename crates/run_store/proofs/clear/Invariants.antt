@@ -13,6 +13,3 @@ blank s = replicate (length s) (pos 0)
 abbrev pub invariant-loop-at : goal.invariant-loop-at
 invariant-loop-at l =
     (l.at ≤ length l.initial.store) × (length l.store ≡ length l.initial.store) × (l.store ≡ paste l.initial.store 0 (blank l.initial.store) l.at)
-
-abbrev pub decreases-loop-at : goal.decreases-loop-at
-decreases-loop-at l = length l.initial.store - l.at

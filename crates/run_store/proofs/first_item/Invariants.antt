@@ -13,6 +13,3 @@ blank = replicate FIELDS (pos 0)
 
 abbrev pub invariant-loop-field : goal.invariant-loop-field
 invariant-loop-field l = (l.field ≤ FIELDS) × (length l.y.f ≡ FIELDS) × (l.y.f ≡ paste blank 0 l.part l.field)
-
-abbrev pub decreases-loop-field : goal.decreases-loop-field
-decreases-loop-field l = FIELDS - l.field

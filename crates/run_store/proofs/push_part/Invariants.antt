@@ -9,6 +9,3 @@ use Rattle.run_store.proofs.push_part.Given as goal
 
 abbrev pub invariant-loop-i : goal.invariant-loop-i
 invariant-loop-i l = (l.i ≤ FIELDS) × (length l.part ≡ PART) × (l.part ≡ paste l.initial.part l.at l.x.f l.i)
-
-abbrev pub decreases-loop-i : goal.decreases-loop-i
-decreases-loop-i l = FIELDS - l.i

@@ -8,6 +8,3 @@ use Rattle.run_store.proofs.quiet.Given as goal
 
 abbrev pub invariant-loop-q : goal.invariant-loop-q
 invariant-loop-q l = (l.q ≤ QUEUES) × (quiet_from l.store 0 l.counts ≡ quiet_from l.store l.q (drop l.q l.counts))
-
-abbrev pub decreases-loop-q : goal.decreases-loop-q
-decreases-loop-q l = QUEUES - l.q

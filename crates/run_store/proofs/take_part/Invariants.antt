@@ -13,6 +13,3 @@ LAST = PART - FIELDS
 
 abbrev pub invariant-loop-to : goal.invariant-loop-to
 invariant-loop-to l = (l.to ≤ LAST) × (length l.part ≡ PART) × (l.part ≡ paste l.initial.part 0 (drop FIELDS l.initial.part) l.to)
-
-abbrev pub decreases-loop-to : goal.decreases-loop-to
-decreases-loop-to l = LAST - l.to

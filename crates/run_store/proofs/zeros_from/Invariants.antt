@@ -8,6 +8,3 @@ use Rattle.run_store.proofs.zeros_from.Given as goal
 
 abbrev pub invariant-loop-i : goal.invariant-loop-i
 invariant-loop-i l = (l.i ≤ length l.part) × (zeros_past l.part l.from ≡ (l.clean && zeros_past l.part l.i))
-
-abbrev pub decreases-loop-i : goal.decreases-loop-i
-decreases-loop-i l = length l.part - l.i

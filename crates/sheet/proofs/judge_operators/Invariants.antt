@@ -13,6 +13,3 @@ abbrev pub invariant-loop-i : goal.invariant-loop-i
 invariant-loop-i l =
     (l.i ≤ l.t.count) × (check_from l.t (l.t.count - l.i) (view_to l.t l.i) ≡ check_from l.t l.t.count (view_to l.t 0))
     × (known_by l.seen ≡ known (view_to l.t l.i))
-
-abbrev pub decreases-loop-i : goal.decreases-loop-i
-decreases-loop-i l = l.t.count - l.i

@@ -11,6 +11,3 @@ use Rattle.sheet.proofs.vacant_from.Given as goal
 
 abbrev pub invariant-loop-i : goal.invariant-loop-i
 invariant-loop-i l = (l.i ≤ OPERATORS) × (all (λ (k : ℕ). ltb k l.t.count || vacant (op_at l.t k)) (build l.i (λ (k : ℕ). k)) ≡ true)
-
-abbrev pub decreases-loop-i : goal.decreases-loop-i
-decreases-loop-i l = OPERATORS - l.i

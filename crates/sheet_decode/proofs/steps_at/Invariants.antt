@@ -8,6 +8,3 @@ use Rattle.sheet_decode.proofs.steps_at.Given as goal
 
 abbrev pub invariant-loop-i : goal.invariant-loop-i
 invariant-loop-i l = (l.i ≤ l.n) × (l.steps ≡ pad 4 no_step (build l.i (λ (k : ℕ). step_of (drop (l.at + 12 * k) l.s))))
-
-abbrev pub decreases-loop-i : goal.decreases-loop-i
-decreases-loop-i l = l.n - l.i

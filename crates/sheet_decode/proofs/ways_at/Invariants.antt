@@ -7,6 +7,3 @@ use Rattle.sheet_decode.proofs.ways_at.Given as goal
 
 abbrev pub invariant-loop-i : goal.invariant-loop-i
 invariant-loop-i l = (l.i ≤ l.n) × (l.queues ≡ pad 4 0 (build l.i (λ (k : ℕ). get_or l.s (l.at + k) 0)))
-
-abbrev pub decreases-loop-i : goal.decreases-loop-i
-decreases-loop-i l = l.n - l.i

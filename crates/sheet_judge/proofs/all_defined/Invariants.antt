@@ -7,6 +7,3 @@ use Rattle.sheet_judge.proofs.all_defined.Given as goal
 
 abbrev pub invariant-loop-q : goal.invariant-loop-q
 invariant-loop-q l = (l.q ≤ l.queues) × (all (has l.defined) (build l.q (λ (k : ℕ). k)) ≡ true)
-
-abbrev pub decreases-loop-q : goal.decreases-loop-q
-decreases-loop-q l = l.queues - l.q

@@ -8,6 +8,3 @@ use Rattle.sheet_judge.proofs.inputs_seen.Given as goal
 
 abbrev pub invariant-loop-q : goal.invariant-loop-q
 invariant-loop-q l = (l.q ≤ l.inputs) × (length l.defined ≡ 32) × (has l.defined ≡ (λ (k : ℕ). ltb k l.q))
-
-abbrev pub decreases-loop-q : goal.decreases-loop-q
-decreases-loop-q l = l.inputs - l.q

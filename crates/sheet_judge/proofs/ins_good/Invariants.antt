@@ -9,6 +9,3 @@ use Rattle.sheet_judge.proofs.ins_good.Given as goal
 
 abbrev pub invariant-loop-j : goal.invariant-loop-j
 invariant-loop-j l = (l.j ≤ l.n) × (all (λ (p : ℕ). ltb p l.queues && has l.defined p) (ways l.j l.ps) ≡ true)
-
-abbrev pub decreases-loop-j : goal.decreases-loop-j
-decreases-loop-j l = l.n - l.j

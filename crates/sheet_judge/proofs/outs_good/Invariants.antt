@@ -9,6 +9,3 @@ use Rattle.sheet_judge.proofs.outs_good.Given as goal
 
 abbrev pub invariant-loop-j : goal.invariant-loop-j
 invariant-loop-j l = (l.j ≤ l.n) × (all (λ (q : ℕ). ltb q l.queues) (ways l.j l.qs) ≡ true)
-
-abbrev pub decreases-loop-j : goal.decreases-loop-j
-decreases-loop-j l = l.n - l.j

@@ -17,6 +17,3 @@ empty n l k = ltb k n || blank (get_or l k no_step)
 
 abbrev pub invariant-loop-j : goal.invariant-loop-j
 invariant-loop-j l = (l.j ≤ PLACES) × (all (empty l.n l.l) (build l.j (λ (k : ℕ). k)) ≡ true)
-
-abbrev pub decreases-loop-j : goal.decreases-loop-j
-decreases-loop-j l = PLACES - l.j

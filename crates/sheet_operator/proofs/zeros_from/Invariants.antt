@@ -15,6 +15,3 @@ zero_at n l k = ltb k n || eqb (get_or l k 0) 0
 
 abbrev pub invariant-loop-j : goal.invariant-loop-j
 invariant-loop-j l = (l.j ≤ PLACES) × (all (zero_at l.n l.l) (build l.j (λ (k : ℕ). k)) ≡ true)
-
-abbrev pub decreases-loop-j : goal.decreases-loop-j
-decreases-loop-j l = PLACES - l.j

@@ -10,6 +10,3 @@ use Rattle.sheet_sets.proofs.all_flagged.Given as goal
 
 abbrev pub invariant-loop-j : goal.invariant-loop-j
 invariant-loop-j l = (l.j ≤ l.n) × (length l.r ≡ FLAGS) × (has l.r ≡ (λ (k : ℕ). member k (ways l.j l.qs) || has l.initial.r k))
-
-abbrev pub decreases-loop-j : goal.decreases-loop-j
-decreases-loop-j l = l.n - l.j

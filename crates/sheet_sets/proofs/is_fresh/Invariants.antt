@@ -12,6 +12,3 @@ abbrev pub invariant-loop-j : goal.invariant-loop-j
 invariant-loop-j l =
     (l.j ≤ l.n) × (length l.t ≡ FLAGS) × (has l.t ≡ (λ (k : ℕ). member k (ways l.j l.qs) || has l.initial.t k))
     × (fresh (has l.initial.t) (ways l.j l.qs) ≡ true)
-
-abbrev pub decreases-loop-j : goal.decreases-loop-j
-decreases-loop-j l = l.n - l.j

@@ -8,6 +8,3 @@ use Rattle.text_own.proofs.inputs.Given as goal
 
 abbrev pub invariant-loop-q : goal.invariant-loop-q
 invariant-loop-q l = (l.q ≤ l.n) × (l.names ≡ kept_of (build l.q (λ (k : ℕ). k)))
-
-abbrev pub decreases-loop-q : goal.decreases-loop-q
-decreases-loop-q l = l.n - l.q

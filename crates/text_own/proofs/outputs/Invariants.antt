@@ -8,7 +8,4 @@ use Rattle.text_own.proofs.Loops.{outputs_to}
 use Rattle.text_own.proofs.outputs.Given as goal
 
 abbrev pub invariant-loop-q : goal.invariant-loop-q
-invariant-loop-q l = (l.q ≤ l.t.queues) × (l.names ≡ kept_of (outputs_to (view_sheet l.t) l.q))
-
-abbrev pub decreases-loop-q : goal.decreases-loop-q
-decreases-loop-q l = l.t.queues - l.q
+invariant-loop-q l = (l.q ≤ l.fn.t.queues) × (l.names ≡ kept_of (outputs_to (view_sheet l.fn.t) l.q))

@@ -7,6 +7,3 @@ use Rattle.text_own.proofs.same_names.Given as goal
 
 abbrev pub invariant-loop-k : goal.invariant-loop-k
 invariant-loop-k l = (l.k ≤ QUEUES) × SameTo l.ps l.qs l.k
-
-abbrev pub decreases-loop-k : goal.decreases-loop-k
-decreases-loop-k l = QUEUES - l.k

@@ -9,6 +9,3 @@ use Rattle.text_parts.proofs.put_steps.Given as goal
 
 abbrev pub invariant-loop-i : goal.invariant-loop-i
 invariant-loop-i l = Putting BAR_TEXT (λ (j : ℕ). printed (line_tokens (steps_in j l.steps))) l.initial.s l.at l.n l.s l.end l.i
-
-abbrev pub decreases-loop-i : goal.decreases-loop-i
-decreases-loop-i l = l.n - l.i

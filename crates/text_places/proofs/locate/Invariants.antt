@@ -7,6 +7,3 @@ use Rattle.text_places.proofs.locate.Given as goal
 
 abbrev pub invariant-loop-i : goal.invariant-loop-i
 invariant-loop-i l = Walking l.s l.p l.i
-
-abbrev pub decreases-loop-i : goal.decreases-loop-i
-decreases-loop-i l = length l.s - l.i

@@ -10,6 +10,3 @@ use Rattle.text_print.proofs.put_items.Given as goal
 
 abbrev pub invariant-loop-i : goal.invariant-loop-i
 invariant-loop-i l = Putting ITEM_TEXT (λ (k : ℕ). printed (chain item_tokens (view_to l.t k).ops)) l.initial.s l.at l.n l.s l.end l.i
-
-abbrev pub decreases-loop-i : goal.decreases-loop-i
-decreases-loop-i l = l.n - l.i

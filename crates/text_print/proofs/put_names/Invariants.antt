@@ -8,6 +8,3 @@ use Rattle.text_print.proofs.put_names.Given as goal
 
 abbrev pub invariant-loop-i : goal.invariant-loop-i
 invariant-loop-i l = Putting NAME_TEXT (λ (k : ℕ). names_text (ways k l.queues)) l.initial.s l.at l.count l.s l.end l.i
-
-abbrev pub decreases-loop-i : goal.decreases-loop-i
-decreases-loop-i l = l.count - l.i

@@ -8,6 +8,3 @@ use Rattle.text_scan.proofs.among.Given as goal
 
 abbrev pub invariant-loop-i : goal.invariant-loop-i
 invariant-loop-i l = (l.i ≤ length l.ms) × (member l.b (drop l.i l.ms) ≡ member l.b l.ms)
-
-abbrev pub decreases-loop-i : goal.decreases-loop-i
-decreases-loop-i l = length l.ms - l.i

@@ -11,6 +11,3 @@ abbrev pub invariant-loop-i : goal.invariant-loop-i
 invariant-loop-i l =
     (l.i ≤ length l.w) × (l.d.at ≤ length l.s)
     × (bind (stands l.s l.d) (λ (x : ℕ). spell (drop l.i l.w)) ≡ bind (stands l.s l.initial.d) (λ (x : ℕ). spell l.w))
-
-abbrev pub decreases-loop-i : goal.decreases-loop-i
-decreases-loop-i l = length l.w - l.i

@@ -6,6 +6,3 @@ use Rattle.text_sheet.proofs.highest.Given as goal
 
 abbrev pub invariant-loop-i : goal.invariant-loop-i
 invariant-loop-i l = (l.i ≤ PLACES) × (l.h ≡ highest_from l.m (ways l.i l.l))
-
-abbrev pub decreases-loop-i : goal.decreases-loop-i
-decreases-loop-i l = PLACES - l.i

@@ -9,6 +9,3 @@ use Rattle.text_sheet.proofs.highest_in.Given as goal
 
 abbrev pub invariant-loop-i : goal.invariant-loop-i
 invariant-loop-i l = (l.i ≤ l.end) × (l.end ≤ OPERATORS) × (l.m ≡ highest_of l.initial.m (build l.i (λ (k : ℕ). get_or l.h.operators k missing)))
-
-abbrev pub decreases-loop-i : goal.decreases-loop-i
-decreases-loop-i l = l.end - l.i

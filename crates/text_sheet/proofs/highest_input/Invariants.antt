@@ -7,6 +7,3 @@ use Rattle.text_sheet.proofs.highest_input.Given as goal
 
 abbrev pub invariant-loop-i : goal.invariant-loop-i
 invariant-loop-i l = (l.i ≤ INPUTS) × (l.h ≡ highest_from 0 (ways l.i l.l))
-
-abbrev pub decreases-loop-i : goal.decreases-loop-i
-decreases-loop-i l = INPUTS - l.i

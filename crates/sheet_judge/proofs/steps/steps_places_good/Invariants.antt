@@ -9,6 +9,3 @@ use Rattle.sheet_judge.proofs.steps.steps_places_good.Given as goal
 
 abbrev pub invariant-loop-j : goal.invariant-loop-j
 invariant-loop-j l = (l.j ≤ l.n) × (all step_places (steps_in l.j l.ss) ≡ true)
-
-abbrev pub decreases-loop-j : goal.decreases-loop-j
-decreases-loop-j l = l.n - l.j

@@ -10,6 +10,3 @@ use Rattle.sheet_sets.proofs.steps.steps_apart.Given as goal
 
 abbrev pub invariant-loop-j : goal.invariant-loop-j
 invariant-loop-j l = (l.j ≤ l.n) × (all (λ (t : Step). all (λ (v : ℕ). not (has l.s v)) (step_names t)) (steps_in l.j l.ss) ≡ true)
-
-abbrev pub decreases-loop-j : goal.decreases-loop-j
-decreases-loop-j l = l.n - l.j

@@ -9,6 +9,3 @@ use Rattle.sheet_sets.proofs.steps.steps_flagged.Given as goal
 
 abbrev pub invariant-loop-j : goal.invariant-loop-j
 invariant-loop-j l = (l.j ≤ l.n) × (has l.r ≡ (λ (k : ℕ). member k (chain step_names (steps_in l.j l.ss)) || has l.initial.r k))
-
-abbrev pub decreases-loop-j : goal.decreases-loop-j
-decreases-loop-j l = l.n - l.j
