@@ -46,25 +46,6 @@ sets_last [] s at k d e = ap (λ (n : ℕ). set s n d) (e ∙ add-zero at)
 sets_last (x ∷ xs) s at k d e =
     ap (λ (l : List ℕ). sets l (suc at) xs) (set_swap s k at d x (λ n. omega arith)) ∙ sets_last xs (set s at x) (suc at) k d (omega arith)
 
--- ---- a word, byte by byte
-
-word_take : (w : List ℕ) (i : ℕ) → i < length w → take (i + 1) w ≡ take i w ++ (get_or w i 0 ∷ [])
-word_take w i h = rw (add-one, take-suc w i 0)
-
-pub word_more : (s₀ s w : List ℕ) (at i : ℕ) → i < length w → s ≡ sets s₀ at (take i w) →
-    set s (at + i) (get_or w i 0) ≡ sets s₀ at (take (i + 1) w)
-word_more s₀ s w at i h e =
-    let n : at + i ≡ at + length (take i w) = omega (arith, length-take-le i w (omega arith)) in
-    ap (λ (l : List ℕ). set l (at + i) (get_or w i 0)) e ∙ ap (λ (k : ℕ). set (sets s₀ at (take i w)) k (get_or w i 0)) n
-    ∙ sets_append (take i w) (get_or w i 0 ∷ []) s₀ at ∙ ap (sets s₀ at) (sym (word_take w i h))
-
-pub word_ends : (s₀ s w : List ℕ) (at i : ℕ) → i ≡ length w → s ≡ sets s₀ at (take i w) → PutsText w s₀ at s (at + i)
-word_ends s₀ s w at i h e =
-    record {
-      text = e ∙ ap (sets s₀ at) (ap (λ (k : ℕ). take k w) h ∙ take-length w);
-      past = omega arith;
-    }
-
 -- ---- a number, from its last digit on: what is left to put gives the whole
 
 pub record Filling (s₀ : List ℕ) (at n : ℕ) (s : List ℕ) (m i : ℕ) : Type 0 where

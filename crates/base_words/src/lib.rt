@@ -8,12 +8,9 @@ pub fn put_word(s: &mut [u8], at: usize, w: &[u8]) -> usize
     requires { at + length w.now ≤ length s.old }
     ensures { PutsText w.now s.old at s.new result }
 {
-    let mut i = 0;
-    while i < w.len() {
-        s[at + i] = w[i];
-        i += 1;
-    }
-    at + i
+    let end = at + w.len();
+    s[at..end].copy_from_slice(w);
+    end
 }
 
 // How many digits a number has.

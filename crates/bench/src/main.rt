@@ -21,8 +21,8 @@ fn bench(stdin: Stdin, input: &mut [u8], text: &mut [u8]) {
         return;
     }
     let end = f.end;
-    let p = bench_report::report(&input[..end], &mut *text);
-    print(&*text, p.size);
+    let size = bench_report::report(&input[..end], &mut *text).unwrap_or(0);
+    print(&*text, size);
 }
 
 fn main(rt: HostRuntime) {

@@ -4,10 +4,14 @@
 ghost use Rattle.std.specs.Prelude.{◌+◌, ◌*◌, ◌≤◌, ◌≡◌, ◌++◌, length, take};
 ghost use Rattle.base_lists.specs.Lists.{chain};
 ghost use Rattle.base_words.specs.Text.{word, PutsText};
+ghost use Rattle.std.specs.Option.{unwrap_or};
 ghost use Rattle.base_bounds.specs.Bounds.{FIELDS, ROOM};
+ghost use Rattle.base_refusal.specs.Refusal.{number_of};
 ghost use Rattle.run_store.specs.Store.{PART};
 ghost use Rattle.run_store.specs.Queues.{items_of};
 ghost use Rattle.bench_lines.specs.Lines.{spaced, item_line, queue_lines, variable_line, variable_lines, refusal_line, answer, counts_line, SPACED, LINE};
+
+use base_refusal::Refusal;
 
 const NEWLINE: u8 = 10;
 
@@ -87,14 +91,15 @@ pub fn put_variables(s: &mut [u8], at: usize, n: usize, vars: &[i32]) -> usize
     end
 }
 
-pub fn put_refusal(s: &mut [u8], at: usize, number: u8, spot: usize) -> usize
+// A refusal, at record 0 where it names none.
+pub fn put_refusal(s: &mut [u8], at: usize, refusal: Refusal) -> usize
     requires { at + LINE ≤ length s.old }
-    ensures { PutsText (refusal_line number spot) s.old at s.new result × (result ≤ at + LINE) }
+    ensures { PutsText (refusal_line (number_of refusal.reason) (unwrap_or refusal.spot 0)) s.old at s.new result × (result ≤ at + LINE) }
 {
     let a = base_words::put_word(s, at, b"refused ");
-    let b = base_words::put_natural(s, a, number as usize);
+    let b = base_words::put_natural(s, a, u8::from(refusal.reason) as usize);
     let d = base_words::put_word(s, b, b" at record ");
-    let e = base_words::put_natural(s, d, spot);
+    let e = base_words::put_natural(s, d, refusal.spot.unwrap_or(0));
     s[e] = NEWLINE;
     e + 1
 }

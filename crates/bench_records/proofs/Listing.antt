@@ -5,12 +5,15 @@ use mathlib.Core.List.{List, [], ◌∷◌, ◌++◌, append_assoc, append-nil}
 use Prim.Native.Nat.{ℕ, zero, suc, ◌+◌, ◌-◌, ◌*◌, ◌^◌, ◌≤◌, ◌<◌}
 use native.Mathlib.Numerals.{add-one}
 use native.Mathlib.Omega.{arith}
-use lib.ListN.{length, get_or, take, drop, set, length-set, length-drop}
-use lib.Seq.{drop-drop, get_or-drop, take-suc-set}
+use lib.ListN.{length, take, drop, set, length-set, length-drop}
+use lib.Seq.{drop-drop, take-suc-set}
 use borrow.Author.Tests.{eq-eqb, ne_eqb}
-use Rattle.sheet_format.specs.Record.{HEADER}
+use Rattle.std.specs.Prelude.{Ok, Err, Some}
+use Rattle.base_refusal.specs.declared.Reason.{Reason}
+use Rattle.base_refusal.specs.Refusal.{refusal}
+use Rattle.sheet.proofs.AnswerLaws.{some_number}
 use Rattle.bench_records.specs.Records.{queue_at, firing_bytes, Firings, unfired, firings, before, firing_number, firings_from}
-use Rattle.bench_records.specs.Looks.{Listable, Lists}
+use Rattle.bench_records.specs.Looks.{FiredQueue, Listable, Lists}
 use Rattle.bench_records.proofs.RecordLaws.{firing_room}
 
 -- ---- one record
@@ -80,14 +83,13 @@ module _ {s : List ℕ} {from spot : ℕ} {list₀ list : List ℕ} {at n : ℕ}
   fuel : at < length s → length (drop from s) - n ≡ suc (length (drop from s) - (n + 1))
   fuel l = omega (arith, length-drop from s, r.place)
 
-  pub listing_goes_on : at < length s → firing_number (drop at s) ≡ 0 → (q : ℕ) → q ≡ get_or s (at + HEADER) 0 →
-      Listing s from spot list₀ (set list n q) (at + firing_bytes) (n + 1)
-  listing_goes_on l z q e =
+  pub listing_goes_on : at < length s → (q : ℕ) → FiredQueue (drop at s) (Ok q) → Listing s from spot list₀ (set list n q) (at + firing_bytes) (n + 1)
+  listing_goes_on l q d =
+      let z = sym d.number in
       let k = length (drop from s) - (n + 1) in
       let b = listing_place l in
       let f = firings_from k (spot + n + 1) (drop (at + firing_bytes) s) in
       let i : spot + (n + 1) ≡ spot + n + 1 = omega arith in
-      let m : queue_at (drop at s) ≡ q = get_or-drop at s HEADER 0 ∙ sym e in
       record {
         size = length-set list n q ∙ r.size;
         asked = r.asked;
@@ -98,7 +100,7 @@ module _ {s : List ℕ} {from spot : ℕ} {list₀ list : List ℕ} {at n : ℕ}
             ∙ ap (λ (p : ℕ). before_all (take p (set list n q)) f) (add-one n)
             ∙ ap (λ (u : List ℕ). before_all u f) (take-suc-set list n q (omega arith))
             ∙ sym (before_more (take n list) q f)
-            ∙ ap (λ (p : ℕ). before_all (take n list) (before p f)) (sym m)
+            ∙ ap (λ (p : ℕ). before_all (take n list) (before p f)) d.queue
             ∙ ap (λ (u : List ℕ). before_all (take n list) (before (queue_at (drop at s)) (firings_from k (spot + n + 1) u)))
             (sym (drop-drop firing_bytes at s))
             ∙ ap (before_all (take n list)) (sym (firings_next k (spot + n) (drop at s) (some_left l) z))
@@ -106,28 +108,20 @@ module _ {s : List ℕ} {from spot : ℕ} {list₀ list : List ℕ} {at n : ℕ}
             ∙ r.left;
       }
 
-  pub listing_stops : at < length s → (number : ℕ) → number ≡ firing_number (drop at s) → (number ≡ 0 → ⊥) →
-      Lists (firings_from (length (drop from s)) spot (drop from s)) (record { number = number; spot = spot + n; count = n }) list
-  listing_stops l number e ne =
-      let k = length (drop from s) - (n + 1) in
-      let b = listing_place l in
-      record {
-        stops = λ h.
-            sym r.left ∙ ap (λ (p : ℕ). before_all (take n list) (firings_from p (spot + n) (drop at s))) (fuel l)
-            ∙ ap (before_all (take n list)) (firings_stop k (spot + n) (drop at s) (some_left l) (λ z. ne (e ∙ z)))
-            ∙ ap (λ (p : ℕ). unfired p (spot + n)) (sym e);
-        lists = λ z. absurd (ne z);
-        within = omega arith;
-      }
+  pub listing_stops : at < length s → (reason : Reason) → FiredQueue (drop at s) (Err reason) →
+      Lists (firings_from (length (drop from s)) spot (drop from s)) (Err (refusal reason (Some (spot + n)))) list
+  listing_stops l reason d =
+      let k = length (drop from s) - (n + 1) in (
+        sym r.left ∙ ap (λ (p : ℕ). before_all (take n list) (firings_from p (spot + n) (drop at s))) (fuel l)
+            ∙ ap (before_all (take n list)) (firings_stop k (spot + n) (drop at s) (some_left l) (λ z. omega (arith, d.number, some_number reason)))
+            ∙ ap (λ (p : ℕ). unfired p (spot + n)) (sym d.number),
+        refl,
+      )
 
-  pub listing_ends : length s ≤ at →
-      Lists (firings_from (length (drop from s)) spot (drop from s)) (record { number = 0; spot = spot + n; count = n }) list
+  pub listing_ends : length s ≤ at → Lists (firings_from (length (drop from s)) spot (drop from s)) (Ok n) list
   listing_ends l =
-      let e : length (drop at s) ≡ 0 = omega (arith, length-drop at s) in
-      record {
-        stops = λ ne. absurd (ne refl);
-        lists = λ z.
-            sym r.left ∙ ap (before_all (take n list)) (firings_end (length (drop from s) - n) (spot + n) (drop at s) e)
-            ∙ ap firings (append-nil (take n list));
-        within = omega (arith, r.place, r.inside, r.asked.room, r.size);
-      }
+      let e : length (drop at s) ≡ 0 = omega (arith, length-drop at s) in (
+        sym r.left ∙ ap (before_all (take n list)) (firings_end (length (drop from s) - n) (spot + n) (drop at s) e)
+            ∙ ap firings (append-nil (take n list)),
+        omega (arith, r.place, r.inside, r.asked.room, r.size),
+      )

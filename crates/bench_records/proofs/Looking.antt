@@ -8,24 +8,28 @@ use native.Mathlib.Omega.{arith}
 use lib.Dec.{eqb, leb, ltb}
 use lib.ListN.{length, get_or, set, drop, length-append}
 use borrow.Author.Tests.{eq-eqb, ne_eqb, lt-ltb, le-ltb, eqb-true, ltb-true, leb-false}
+use Rattle.std.specs.Prelude.{Result, Ok, Err, Some}
 use Rattle.base_number.specs.Number.{short_of}
 use Rattle.base_lists.proofs.Places.{map_set}
+use Rattle.base_refusal.specs.declared.Reason.{Reason}
+use Rattle.base_refusal.specs.Refusal.{number_of, refusal, number_or_zero}
 use Rattle.sheet_operator.specs.Op.{Abstract}
 use Rattle.base_bounds.specs.Bounds.{OPERATORS, QUEUES, ROOM}
 use Rattle.sheet.specs.declared.Sheet.{Sheet}
 use Rattle.sheet.specs.Answer.{accepted}
 use Rattle.sheet.specs.Sheet.{view_sheet}
 use Rattle.sheet.specs.Check.{check_of}
+use Rattle.sheet.proofs.AnswerLaws as answers
 use Rattle.sheet.proofs.Accepted.{ranges_of_accepted}
 use Rattle.run_machine.specs.Machine.{Machine, Outcome, refuse, done, put_all, feed_m}
 use Rattle.run_machine.proofs.Firing.{feed_puts_one}
 use Rattle.run_machine.proofs.Good.{count_at}
 use Rattle.run_machine.specs.Working.{refusal_of}
 use Rattle.bench_records.specs.Records.{queue_at, item_at, feed_body, feed_bytes, start, fed, is_feed, feed_next, machine_in}
-use Rattle.bench_records.specs.Looks.{feed_number, feeds_after, Looks}
+use Rattle.bench_records.specs.Looks.{feed_number, FedQueue, feeds_after, Looks}
 use Rattle.bench_records.proofs.Feeding.{some_number, whole_body, Passing, passing_starts, passing_few, passing_ends, passing_stops, passing_goes_on}
 
--- ---- the tests of `feed_number`
+-- ---- the tests of `fed_queue`
 
 module _ (inputs : ℕ) (counts s : List ℕ) where
   pub number_body : (short_of s ≡ feed_body → ⊥) → feed_number inputs counts s ≡ 1
@@ -113,48 +117,38 @@ module _ {t : Sheet} {s : List ℕ} {from : ℕ} {counts : List ℕ} {at spot : 
   looking_few = omega (arith, passing_few r.passing, r.few)
 
   -- no feed stands here
-  pub looking_ends : is_feed (drop at s) ≡ false → Looks (feeds_after t start (drop from s)) s (record { number = 0; spot = spot; at = at })
+  pub looking_ends : is_feed (drop at s) ≡ false → Looks (feeds_after t start (drop from s)) s (Ok (record { spot = spot; at = at }))
   looking_ends h =
       let e = passing_ends r.passing h in
-      record {
-        stops = λ ne. absurd (ne refl);
-        feeds = λ z. e ∙ ap (λ (m : Machine). fed m spot (drop at s)) (sym (ap machine_in e));
-        inside = r.passing.inside;
-        few = looking_few;
-      }
+      (e ∙ ap (λ (m : Machine). fed m spot (drop at s)) (sym (ap machine_in e)), r.passing.inside, looking_few)
 
-  module _ (h : is_feed (drop at s) ≡ true) (number : ℕ) (d : number ≡ feed_number t.inputs counts (drop at s)) where
-    agreed : number ≡ refusal_of (feed_next (view_sheet t) r.machine (drop at s))
-    agreed = d ∙ number_of_counts (view_sheet t) r.machine counts (drop at s) r.counted
+  module _ (h : is_feed (drop at s) ≡ true) where
+    agreed : {x : Result ℕ Reason} → FedQueue t.inputs counts (drop at s) x → number_or_zero x ≡ refusal_of (feed_next (view_sheet t) r.machine (drop at s))
+    agreed d = d.number ∙ number_of_counts (view_sheet t) r.machine counts (drop at s) r.counted
 
     -- the feed is refused
-    pub looking_stops : (number ≡ 0 → ⊥) → Looks (feeds_after t start (drop from s)) s (record { number = number; spot = spot; at = at })
-    looking_stops ne = go (feed_next (view_sheet t) r.machine (drop at s)) refl agreed
+    pub looking_stops : (reason : Reason) → FedQueue t.inputs counts (drop at s) (Err reason) →
+        Looks (feeds_after t start (drop from s)) s (Err (refusal reason (Some spot)))
+    looking_stops reason d = go (feed_next (view_sheet t) r.machine (drop at s)) refl (agreed d)
       where
-        go : (o : Outcome) → feed_next (view_sheet t) r.machine (drop at s) ≡ o → number ≡ refusal_of o →
-            Looks (feeds_after t start (drop from s)) s (record { number = number; spot = spot; at = at })
-        go (refuse k) e g =
-            record {
-              stops = λ z. rw g (passing_stops r.passing h k e);
-              feeds = λ z. absurd (ne z);
-              inside = r.passing.inside;
-              few = looking_few;
-            }
-        go (done m) e g = absurd (ne g)
+        go : (o : Outcome) → feed_next (view_sheet t) r.machine (drop at s) ≡ o → number_of reason ≡ refusal_of o →
+            Looks (feeds_after t start (drop from s)) s (Err (refusal reason (Some spot)))
+        go (refuse k) e g = (rw g (passing_stops r.passing h k e), refl, omega (arith, looking_few, r.passing.inside))
+        go (done m) e g = absurd (omega (arith, answers.some_number reason))
 
     -- the feed will be made
-    pub looking_goes_on : number ≡ 0 → (q : ℕ) → q ≡ queue_at (drop at s) →
+    pub looking_goes_on : (q : ℕ) → FedQueue t.inputs counts (drop at s) (Ok q) →
         Looking t s from (set counts q (get_or counts q 0 + 1)) (at + feed_bytes) (spot + 1)
-    looking_goes_on z q i = go (feed_next (view_sheet t) r.machine (drop at s)) refl agreed
+    looking_goes_on q d = go (feed_next (view_sheet t) r.machine (drop at s)) refl (agreed d)
       where
-        go : (o : Outcome) → feed_next (view_sheet t) r.machine (drop at s) ≡ o → number ≡ refusal_of o →
+        go : (o : Outcome) → feed_next (view_sheet t) r.machine (drop at s) ≡ o → 0 ≡ refusal_of o →
             Looking t s from (set counts q (get_or counts q 0 + 1)) (at + feed_bytes) (spot + 1)
-        go (refuse k) e g = absurd (some_number (view_sheet t) r.machine (drop at s) k e (sym g ∙ z))
+        go (refuse k) e g = absurd (some_number (view_sheet t) r.machine (drop at s) k e (sym g))
         go (done m) e g =
             record {
               machine = m;
               passing = passing_goes_on r.passing h m e;
-              counted = counts_more (view_sheet t) r.machine counts (drop at s) r.counted m e q i;
+              counted = counts_more (view_sheet t) r.machine counts (drop at s) r.counted m e q d.queue;
               inputs = r.inputs;
               few = r.few;
             }

@@ -5,9 +5,10 @@ ghost use Rattle.std.specs.Prelude.{◌≡◌, true, ◌+◌, ◌≤◌, length,
 ghost use Rattle.sheet.specs.Answer.{accepted};
 ghost use Rattle.sheet.specs.Check.{check_of};
 ghost use Rattle.base_bounds.specs.Bounds.{QUEUES};
-ghost use Rattle.bench_records.specs.Records.{item_at, feed_bytes, start, is_feed, firing_number, firings_from};
-ghost use Rattle.bench_records.specs.Looks.{feed_number, feeds_after, Looks, Listable, Lists};
+ghost use Rattle.bench_records.specs.Records.{item_at, feed_bytes, start, is_feed, firings_from};
+ghost use Rattle.bench_records.specs.Looks.{FedQueue, FiredQueue, feeds_after, Looks, Listable, Lists};
 
+use base_refusal::{Reason, Refusal};
 use run_store::Item;
 use sheet::Sheet;
 
@@ -26,20 +27,11 @@ const FIRING_BODY: usize = 1;
 
 pub const FIRING_BYTES: usize = sheet_format::HEADER + FIRING_BODY;
 
-// How the feeds end: the refusal, 0 for none, and its record; else the number of the next record and where it starts.
+// The record after the feeds: its number and where it starts.
 #[derive(Clone, Copy)]
 pub struct Looked {
-    pub number: u8,
     pub spot: usize,
     pub at: usize,
-}
-
-// How the firings end: the refusal, 0 for none, and its record; else how many stand in the list.
-#[derive(Clone, Copy)]
-pub struct Listed {
-    pub number: u8,
-    pub spot: usize,
-    pub count: usize,
 }
 
 // A whole feed record stands at `at`.
@@ -68,26 +60,31 @@ pub fn item_at(s: &[u8], at: usize) -> Item
     x
 }
 
-// The refusal of the feed at `at`, 0 for none: by its body length, its queue, and how many items the queue has.
-fn feed_number(s: &[u8], at: usize, inputs: u8, counts: [u8; run_machine::QUEUES]) -> u8
+// The queue of the feed at `at`, or its refusal: by its body length, its queue, and how many items the queue has.
+fn fed_queue(
+    s: &[u8],
+    at: usize,
+    inputs: u8,
+    counts: [u8; run_machine::QUEUES],
+) -> Result<u8, Reason>
     requires { (at ≤ length s.now) × (is_feed (drop at s.now) ≡ true) × (inputs ≤ QUEUES) }
-    ensures { result ≡ feed_number inputs counts (drop at s.now) }
+    ensures { FedQueue inputs counts (drop at s.now) result }
 {
     if base_number::short_at(s, at) != FEED_BODY {
-        return 1;
+        return Err(Reason::BadLength);
     }
     let q = s[at + sheet_format::HEADER];
     if inputs <= q {
-        return 9;
+        return Err(Reason::WrongQueue);
     }
     if run_machine::is_full(counts, q) {
-        return 12;
+        return Err(Reason::FullQueue);
     }
-    0
+    Ok(q)
 }
 
 // Looks at the feeds from `from` on, up to the first record that is none or is refused, with the sheet's queues empty at first.
-pub fn look_feeds(s: &[u8], from: usize, t: Sheet) -> Looked
+pub fn look_feeds(s: &[u8], from: usize, t: Sheet) -> Result<Looked, Refusal>
     requires { (check_of t ≡ accepted) × (from ≤ length s.now) }
     ensures { Looks (feeds_after t start (drop from s.now)) s.now result }
 {
@@ -95,63 +92,47 @@ pub fn look_feeds(s: &[u8], from: usize, t: Sheet) -> Looked
     let mut at = from;
     let mut spot = t.count as usize + 1;
     while is_feed(s, at) {
-        let inputs = t.inputs;
-        let number = feed_number(s, at, inputs, counts);
-        if number != 0 {
-            return Looked { number, spot, at };
+        match fed_queue(s, at, t.inputs, counts) {
+            Ok(q) => counts[q as usize] += 1,
+            Err(reason) => return Err(reason.at(spot)),
         }
-        let q = s[at + sheet_format::HEADER] as usize;
-        counts[q] += 1;
         at += FEED_BYTES;
         spot += 1;
     }
-    Looked {
-        number: 0,
-        spot,
-        at,
-    }
+    Ok(Looked { spot, at })
 }
 
-// The refusal of the firing record at `at`, 0 for none.
-fn firing_number(s: &[u8], at: usize) -> u8
+// The queue of the firing record at `at`, or its refusal.
+fn fired_queue(s: &[u8], at: usize) -> Result<u8, Reason>
     requires { at ≤ length s.now }
-    ensures { result ≡ firing_number (drop at s.now) }
+    ensures { FiredQueue (drop at s.now) result }
 {
     if sheet_decode::is_cut(s, at) {
-        return 1;
+        return Err(Reason::BadLength);
     }
     if base_number::short_at(s, at + 2) != FIRING {
-        return 2;
+        return Err(Reason::BadKind);
     }
     if base_number::short_at(s, at) != FIRING_BODY {
-        return 1;
+        return Err(Reason::BadLength);
     }
-    0
+    Ok(s[at + sheet_format::HEADER])
 }
 
-// The queues to fire, from `from` to the end of the bytes, into the list.
-pub fn list_firings(s: &[u8], from: usize, spot: usize, list: &mut [u8]) -> Listed
+// The queues to fire, from `from` to the end of the bytes, into the list; and how many they are.
+pub fn list_firings(s: &[u8], from: usize, spot: usize, list: &mut [u8]) -> Result<usize, Refusal>
     requires { Listable s.now from spot list.old }
     ensures { Lists (firings_from (length (drop from s.now)) spot (drop from s.now)) result list.new }
 {
     let mut at = from;
     let mut n = 0;
     while at < s.len() {
-        let number = firing_number(s, at);
-        if number != 0 {
-            return Listed {
-                number,
-                spot: spot + n,
-                count: n,
-            };
+        match fired_queue(s, at) {
+            Ok(q) => list[n] = q,
+            Err(reason) => return Err(reason.at(spot + n)),
         }
-        list[n] = s[at + sheet_format::HEADER];
         at += FIRING_BYTES;
         n += 1;
     }
-    Listed {
-        number: 0,
-        spot: spot + n,
-        count: n,
-    }
+    Ok(n)
 }

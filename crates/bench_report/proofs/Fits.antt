@@ -24,7 +24,7 @@ use Rattle.run_machine.specs.Numbers.{GoodM}
 use Rattle.run_machine.proofs.Sound.{Sound}
 use Rattle.bench_trial.specs.Trial.{Trial, trial_of, at_rest, outputs_at, outputs_of, variables_in}
 use Rattle.bench_trial.proofs.Narrow.{NarrowM, NarrowQueue}
-use Rattle.bench_trial.proofs.Within.{Ended, Refusal, trial_within}
+use Rattle.bench_trial.proofs.Within.{Ended, Refused, trial_within}
 use Rattle.bench_report.specs.Print.{item_lines, printed, text_of}
 use Rattle.bench_report.specs.Reports.{TEXT}
 use Rattle.bench_report.proofs.Outputs.{chain_chain, lines_by}
@@ -105,7 +105,7 @@ ended_fits f h =
     subst (λ (g : Trial). length (printed g) ≤ TEXT) (sym h.same)
     (omega (arith, length-append (counts_line r.fired r.skipped rest) (items ++ vars), length-append items vars))
 
-refusal_fits : (f : Trial) → Refusal f → length (printed f) ≤ TEXT
+refusal_fits : (f : Trial) → Refused f → length (printed f) ≤ TEXT
 unfolding printed
 refusal_fits f h =
     let a = h.small in

@@ -6,19 +6,19 @@ use mathlib.Core.List.{List, ◌++◌}
 use Prim.Native.Nat.{ℕ, ◌+◌, ◌*◌, ◌≤◌, ◌<◌}
 use native.Mathlib.Omega.{arith}
 use lib.ListN.{length, drop}
-use lib.IntN.{ℤ}
-use borrow.Author.Tests.{le-leb, lt-leb, eq-eqb, ne_eqb}
+use borrow.Author.Tests.{le-leb, lt-leb}
 use Rattle.base_lists.proofs.Sets.{sets_front}
-use Rattle.sheet.specs.declared.Answer.TheVariants.{Done, RefusedAt}
+use Rattle.std.specs.Prelude.{Ok, Err, Some}
+use Rattle.base_refusal.specs.declared.Reason.TheVariants.{TooShort}
+use Rattle.base_refusal.specs.Refusal.{refusal}
 use Rattle.base_words.specs.Text.{PutsText}
-use Rattle.bench_lines.specs.Lines.{variable_lines, refusal_line, counts_line, LINE}
+use Rattle.bench_lines.specs.Lines.{variable_lines, counts_line, LINE}
 use Rattle.base_words.proofs.Putting.{puts_then}
 use Rattle.base_bounds.specs.Bounds.{QUEUES, ROOM, VARIABLES}
 use Rattle.sheet_operator.specs.Op.{Abstract}
 use Rattle.run_machine.specs.Machine.{Ran}
-use Rattle.bench_trial.specs.declared.Tried.{Tried}
 use Rattle.bench_trial.specs.Trial.{Trial, ended, trial_of, at_rest, outputs_of, variables_in}
-use Rattle.bench_report.specs.Print.{item_lines, printed, ended_in, told}
+use Rattle.bench_report.specs.Print.{item_lines, printed}
 use Rattle.bench_report.specs.Reports.{TEXT, report_of, Reports}
 
 -- the counts, the items and the variables, one after the other
@@ -30,20 +30,9 @@ unfolding printed
 figures_printed a x rest h n l p q r =
     (puts_then (rw h at p.0) (puts_then q.0 r.0), omega (arith, p.1, q.1, r.1))
 
--- a trial by its number
-pub refusal_printed : (r : Tried) (store : List ℤ) {s t : List ℕ} {e : ℕ} → (r.number ≡ 0 → ⊥) →
-    PutsText (refusal_line r.number r.spot) s 0 t e × (e ≤ 0 + LINE) → PutsText (printed (told r store)) s 0 t e × (e ≤ TEXT)
-unfolding printed
-refusal_printed r store ne p = (rw (ne_eqb r.number 0 ne) p.0, omega (arith, p.1))
-
-pub trial_printed : (r : Tried) (store : List ℤ) {s t : List ℕ} {e : ℕ} → r.number ≡ 0 →
-    PutsText (printed (ended_in r store)) s 0 t e × (e ≤ TEXT) → PutsText (printed (told r store)) s 0 t e × (e ≤ TEXT)
-trial_printed r store z p = rw (eq-eqb r.number 0 z) p
-
 -- ---- the report
 
-pub report_short : (input before : List ℕ) → length before < TEXT →
-    Reports input before before (record { answer = RefusedAt 18 0; size = 0 })
+pub report_short : (input before : List ℕ) → length before < TEXT → Reports input before before (Err (refusal TooShort (Some 0)))
 unfolding report_of
 report_short input before h =
     record {
@@ -54,7 +43,7 @@ report_short input before h =
     }
 
 pub report_done : (input before after : List ℕ) (n : ℕ) (f : Trial) → TEXT ≤ length before → f ≡ trial_of input →
-    PutsText (printed f) before 0 after n × (n ≤ TEXT) → Reports input before after (record { answer = Done; size = n })
+    PutsText (printed f) before 0 after n × (n ≤ TEXT) → Reports input before after (Ok n)
 unfolding report_of
 report_done input before after n f h e p =
     let g = le-leb TEXT (length before) h in

@@ -2,40 +2,52 @@
 -- Assumes nothing.
 use mathlib.Core.Path.{◌≡◌, sym, ap, ◌∙◌, subst}
 use mathlib.Core.Logic.{◌⊎◌, ⊎_elim}
-use mathlib.Core.Bool.{Bool, true, cond}
+use mathlib.Core.Bool.{true}
 use mathlib.Core.List.{List}
-use native.Mathlib.Omega.{arith}
+use Prim.Native.Nat.{ℕ}
 use lib.IntN.{ℤ}
-use borrow.Author.Tests.{ne_eqb}
+use Rattle.std.specs.Prelude.{Result, Ok, Err, Option, Some, None, IfOk}
+use Rattle.std.specs.Option.{unwrap_or}
+use Rattle.base_refusal.specs.declared.Reason.{Reason}
+use Rattle.base_refusal.specs.declared.Refusal.{Refusal}
+use Rattle.base_refusal.specs.Refusal.{number_of}
 use Rattle.sheet_operator.specs.Op.{Abstract}
+use Rattle.sheet.specs.Answer.{refused_at, refused_for, paper}
+use Rattle.sheet.proofs.AnswerLaws.{same_refusal, accepted_apart, record_apart, value_of}
 use Rattle.sheet.specs.Sheet.{view_sheet, memory_sheet}
 use Rattle.run_machine.specs.Machine.{Machine}
 use Rattle.run_machine.specs.Numbers.{decode, state_of, store_in, good}
 use Rattle.run_machine.proofs.Good.{decode_of_encode, good_of_machine}
 use Rattle.bench_trial.specs.declared.Tried.{Tried}
 use Rattle.bench_trial.specs.Trial.{Trial, refusal, ended, at_rest}
-use Rattle.bench_trial.specs.Tries.{tried_of, store_after, Tries}
-use Rattle.bench_trial.proofs.Within.{Ended, Refusal}
-use Rattle.bench_report.specs.Print.{ended_in, told, Shown}
+use Rattle.bench_trial.specs.Tries.{answer_of, none_tried, tried_of, store_after, Tries}
+use Rattle.bench_trial.proofs.Within.{Ended, Refused}
+use Rattle.bench_report.specs.Print.{told, Shown}
 
-module _ (f : Trial) (before : List ℤ) (r : Tried) (after : List ℤ) (h : Tries f before r after) where
+-- ---- a refusal that names a record
+
+told_at : (reason : Reason) (at : Option ℕ) (number spot : ℕ) → refused_for reason at ≡ refused_at number spot →
+    refusal (number_of reason) (unwrap_or at 0) ≡ refusal number spot
+told_at reason (Some k) number spot e = let p = same_refusal (number_of reason) number k spot e in cc
+told_at reason None number spot e = absurd (record_apart number (number_of reason) spot (sym e))
+
+told_refusal : (r : Result Tried Refusal) (s : List ℤ) (number spot : ℕ) → paper r ≡ refused_at number spot → told r s ≡ refusal number spot
+told_refusal (Ok x) s number spot e = absurd (accepted_apart number spot e)
+told_refusal (Err d) s number spot e = told_at d.reason d.spot number spot e
+
+not_shown : (r : Result Tried Refusal) (s : List ℤ) (number spot : ℕ) → paper r ≡ refused_at number spot → IfOk r (λ (x : Tried). Shown x s)
+not_shown (Ok x) s number spot e = absurd (accepted_apart number spot e)
+not_shown (Err d) s number spot e = tt
+
+module _ (f : Trial) (before : List ℤ) (r : Result Tried Refusal) (after : List ℤ) (h : Tries f before r after) where
   -- ---- a refused input
 
-  module _ (q : Refusal f) where
-    abbrev asked : Tried
-    asked = tried_of (refusal q.number q.spot)
-
-    answered : r ≡ asked
-    answered = h.answered ∙ ap tried_of q.same
+  module _ (q : Refused f) where
+    answered : paper r ≡ refused_at q.number q.spot
+    answered = h.answered ∙ ap answer_of q.same
 
     tells_refusal : told r after ≡ f
-    tells_refusal =
-        ap (λ (x : Tried). told x after) answered
-        ∙ ap (λ (b : Bool). cond b (ended_in asked after) (refusal q.number q.spot)) (ne_eqb q.number 0 (λ z. omega (arith, q.some)))
-        ∙ sym q.same
-
-    not_shown : r.number ≡ 0 → Shown r after
-    not_shown z = absurd (omega (arith, q.some, ap (λ (x : Tried). x.number) answered))
+    tells_refusal = told_refusal r after q.number q.spot answered ∙ sym q.same
 
   -- ---- an input that is run
 
@@ -46,8 +58,8 @@ module _ (f : Trial) (before : List ℤ) (r : Tried) (after : List ℤ) (h : Tri
     abbrev m : Machine
     m = q.ran.machine
 
-    ran : r ≡ tried_of (ended a q.ran)
-    ran = h.answered ∙ ap tried_of q.same
+    ran : r ≡ Ok (tried_of (ended a q.ran))
+    ran = value_of r none_tried (h.answered ∙ ap answer_of q.same) ∙ ap Ok (h.tried ∙ ap tried_of q.same)
 
     stored : after ≡ store_in m
     stored = h.stored ∙ ap (store_after before) q.same
@@ -57,7 +69,7 @@ module _ (f : Trial) (before : List ℤ) (r : Tried) (after : List ℤ) (h : Tri
 
     tells_end : told r after ≡ f
     tells_end =
-        ap (λ (x : Tried). told x after) ran ∙ ap (told (tried_of (ended a q.ran))) stored
+        ap (λ (x : Result Tried Refusal). told x after) ran ∙ ap (told (Ok (tried_of (ended a q.ran)))) stored
         ∙ ap (λ (b : Abstract). ended b (record {
           fired = q.ran.fired;
           skipped = q.ran.skipped;
@@ -76,13 +88,11 @@ module _ (f : Trial) (before : List ℤ) (r : Tried) (after : List ℤ) (h : Tri
           rest = ap (λ (b : Abstract). at_rest b m) (sym q.view) ∙ ap (at_rest (view_sheet (memory_sheet a))) (sym back);
         }
 
-    shown_end : Shown r after
-    shown_end =
-        subst (λ (x : Tried). Shown x after) (sym ran)
-        (subst (λ (s : List ℤ). Shown (tried_of (ended a q.ran)) s) (sym stored) shown_as)
+    shown_end : IfOk r (λ (x : Tried). Shown x after)
+    shown_end = rw (ran, stored) shown_as
 
-  pub tells : Ended f ⊎ Refusal f → told r after ≡ f
+  pub tells : Ended f ⊎ Refused f → told r after ≡ f
   tells w = ⊎_elim tells_end tells_refusal w
 
-  pub shows : Ended f ⊎ Refusal f → r.number ≡ 0 → Shown r after
-  shows w z = ⊎_elim (λ (q : Ended f). shown_end q) (λ (q : Refusal f). not_shown q z) w
+  pub shows : Ended f ⊎ Refused f → IfOk r (λ (x : Tried). Shown x after)
+  shows w = ⊎_elim shown_end (λ (q : Refused f). not_shown r after q.number q.spot (answered q)) w

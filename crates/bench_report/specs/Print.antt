@@ -1,5 +1,8 @@
 -- What `bench` prints of one input: a line for the refusal, or one for the counts, one for each item and one for each variable.
-use Rattle.std.specs.Prelude.{◌≡◌, ℕ, Bool, cond, List, [], ◌++◌, eqb, ℤ}
+use Rattle.std.specs.Prelude.{◌≡◌, ℕ, Bool, cond, List, [], ◌++◌, ℤ, Result, Ok, Err}
+use Rattle.std.specs.Option.{unwrap_or}
+use Rattle.base_refusal.specs.declared.Refusal.{Refusal}
+use Rattle.base_refusal.specs.Refusal.{number_of}
 use Rattle.base_lists.specs.Lists.{chain}
 use Rattle.sheet.specs.Sheet.{view_sheet}
 use Rattle.bench_lines.specs.Lines.{item_line, queue_lines, variable_lines, refusal_line, counts_line}
@@ -30,12 +33,13 @@ text_of s = printed (trial_of s)
 abbrev pub lines_if : Bool → ℕ → ℕ → List ℤ → List ℕ
 lines_if output q n s = cond output (queue_lines q (items_of n (part s q))) []
 
--- the answer and the store as a trial: 0 for no refusal; the items lie in the store
+-- the answer and the store as a trial: the items lie in the store
 abbrev pub ended_in : Tried → List ℤ → Trial
 ended_in r s = ended (view_sheet r.sheet) (record { fired = r.fired; skipped = r.skipped; machine = decode r.state s })
 
-abbrev pub told : Tried → List ℤ → Trial
-told r s = cond (eqb r.number 0) (ended_in r s) (refusal r.number r.spot)
+abbrev pub told : Result Tried Refusal → List ℤ → Trial
+told (Ok r) s = ended_in r s
+told (Err e) s = refusal (number_of e.reason) (unwrap_or e.spot 0)
 
 -- sheet and numbers stand, and the rest is theirs
 pub record Shown (r : Tried) (s : List ℤ) : Type 0 where

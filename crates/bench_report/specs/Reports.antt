@@ -1,7 +1,8 @@
 -- What a report answers and leaves in the lent buffer, for every input.
-use Rattle.std.specs.Prelude.{◌≡◌, cond, List, ◌++◌, ℕ, ◌≤◌, leb, length, drop}
+use Rattle.std.specs.Prelude.{◌≡◌, cond, List, ◌++◌, ℕ, ◌≤◌, leb, length, drop, Result}
+use Rattle.std.specs.Result.{result_unwrap_or}
+use Rattle.base_refusal.specs.declared.Refusal.{Refusal}
 use Rattle.sheet.specs.Answer.{Paper, accepted, refused_at, paper}
-use Rattle.bench_report.specs.declared.Printed.{Printed}
 use Rattle.bench_report.specs.Print.{text_of}
 
 -- a buffer of this length is always enough
@@ -20,8 +21,8 @@ report_of s l =
     (record { answer = accepted; size = length (text_of s); buffer = text_of s ++ drop (length (text_of s)) l })
     (record { answer = refused_at 18 0; size = 0; buffer = l })
 
-pub record Reports (input before after : List ℕ) (r : Printed) : Type 0 where
-  pub answer : paper r.answer ≡ (report_of input before).answer
-  pub size : r.size ≡ (report_of input before).size
+pub record Reports (input before after : List ℕ) (r : Result ℕ Refusal) : Type 0 where
+  pub answer : paper r ≡ (report_of input before).answer
+  pub size : result_unwrap_or r 0 ≡ (report_of input before).size
   pub buffer : after ≡ (report_of input before).buffer
-  pub fits : r.size ≤ TEXT
+  pub fits : result_unwrap_or r 0 ≤ TEXT

@@ -1,7 +1,7 @@
 // What `bench` prints of one input, as a function from its bytes to a lent buffer.
 #![tactic(auto)]
 
-ghost use Rattle.std.specs.Prelude.{◌+◌, ◌*◌, ◌≤◌, ◌<◌, ◌≡◌, length};
+ghost use Rattle.std.specs.Prelude.{◌+◌, ◌*◌, ◌≤◌, ◌<◌, ◌≡◌, length, IfOk};
 ghost use Rattle.sheet.specs.Sheet.{view_sheet};
 ghost use Rattle.base_words.specs.Text.{PutsText};
 ghost use Rattle.bench_lines.specs.Lines.{LINE};
@@ -13,18 +13,13 @@ ghost use Rattle.bench_trial.specs.Trial.{outputs_of};
 ghost use Rattle.bench_report.specs.Print.{item_lines, printed, lines_if, ended_in, told, Shown};
 ghost use Rattle.bench_report.specs.Reports.{TEXT, Reports};
 
+use base_refusal::{Reason, Refusal};
 use bench_trial::Tried;
 use run_machine::State;
-use sheet::{Answer, Sheet};
+use sheet::Sheet;
 
 // A buffer of this length is always enough.
 pub const TEXT: usize = 131072;
-
-#[derive(Clone, Copy)]
-pub struct Printed {
-    pub answer: Answer,
-    pub size: usize,
-}
 
 // The lines of queue q, which holds n items, if it is an output.
 fn put_output(s: &mut [u8], at: usize, output: bool, q: u8, n: u8, store: &[i32]) -> usize
@@ -72,35 +67,24 @@ fn put_figures(s: &mut [u8], r: Tried, store: &[i32]) -> usize
 }
 
 // The lines of an input.
-fn put_trial(s: &mut [u8], r: Tried, store: &[i32]) -> usize
-    requires { (TEXT ≤ length s.old) × (r.number ≡ 0 → Shown r store.now) }
-    ensures { PutsText (printed (told r store.now)) s.old 0 s.new result × (result ≤ TEXT) }
+fn put_trial(s: &mut [u8], tried: Result<Tried, Refusal>, store: &[i32]) -> usize
+    requires { (TEXT ≤ length s.old) × IfOk tried (λ r. Shown r store.now) }
+    ensures { PutsText (printed (told tried store.now)) s.old 0 s.new result × (result ≤ TEXT) }
 {
-    let number = r.number;
-    if number != 0 {
-        return bench_lines::put_refusal(s, 0, number, r.spot);
+    match tried {
+        Ok(r) => put_figures(s, r, store),
+        Err(e) => bench_lines::put_refusal(s, 0, e),
     }
-    put_figures(s, r, store)
 }
 
 // What `bench` prints of an input, to the front of the buffer; its size, or 18 at record 0 for a buffer that is shorter than TEXT.
-pub fn report(input: &[u8], buffer: &mut [u8]) -> Printed
+pub fn report(input: &[u8], buffer: &mut [u8]) -> Result<usize, Refusal>
     ensures { Reports input.now buffer.old buffer.new result }
 {
     if buffer.len() < TEXT {
-        return Printed {
-            answer: Answer::RefusedAt {
-                number: 18,
-                spot: 0,
-            },
-            size: 0,
-        };
+        return Err(Reason::TooShort.at(0));
     }
     let mut store = [0i32; run_machine::STORE];
     let r = bench_trial::try_input(input, &mut store);
-    let n = put_trial(buffer, r, &store);
-    Printed {
-        answer: Answer::Done,
-        size: n,
-    }
+    Ok(put_trial(buffer, r, &store))
 }

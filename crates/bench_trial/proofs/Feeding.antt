@@ -10,7 +10,9 @@ use lib.Seq.{get_or-drop}
 use lib.IntN.{ℤ}
 use Rattle.sheet_format.specs.Record.{HEADER}
 use Rattle.base_bounds.specs.Bounds.{VARIABLES, QUEUES}
-use Rattle.sheet.specs.declared.Answer.{Answer}
+use Rattle.std.specs.Prelude.{Result}
+use Rattle.std.specs.Result.{result_unwrap_or}
+use Rattle.base_refusal.specs.declared.Refusal.{Refusal}
 use Rattle.sheet.specs.declared.Sheet.{Sheet}
 use Rattle.sheet.specs.Sheet.{view_sheet}
 use Rattle.run_store.specs.declared.Item.{Item}
@@ -102,8 +104,8 @@ module _ {t : Sheet} {s : List ℕ} {from : ℕ} {m₀ : Machine} {st : State} {
         }
 
     pub feeding_goes_on : (q : ℕ) (x : Item) → q ≡ get_or s (at + HEADER) 0 → x ≡ item_at (drop at s) →
-        {answer : Answer} {st' : State} {store' : List ℤ} → Answers (saved st store (feed_m (view_sheet t) (decode st store) q x)) answer st' store' →
-        Feeding t s from m₀ st' store' (at + feed_bytes)
-    feeding_goes_on q x d f {answer} {st'} {store'} a =
+        {a : Result State Refusal} {store' : List ℤ} → Answers (saved st store (feed_m (view_sheet t) (decode st store) q x)) st a store' →
+        Feeding t s from m₀ (result_unwrap_or a st) store' (at + feed_bytes)
+    feeding_goes_on q x d f {a} {store'} h =
         let e = ap (saved st store) (called q x d f) in
-        stored_as st' store' (a.stated ∙ ap (λ (c : Call). c.state) e) (a.stored ∙ ap (λ (c : Call). c.store) e)
+        stored_as (result_unwrap_or a st) store' (h.stated ∙ ap (λ (c : Call). c.state) e) (h.stored ∙ ap (λ (c : Call). c.store) e)

@@ -10,6 +10,8 @@ use lib.ListN.{length, get_or, drop, length-append, length-drop}
 use lib.Seq.{drop-drop, get_or-drop, drop_at}
 use lib.IntN.{ℤ}
 use borrow.Author.Tests.{le-leb, lt-leb}
+use Rattle.std.specs.Prelude.{Ok, Err}
+use Rattle.base_refusal.specs.declared.Refusal.{Refusal}
 use Rattle.base_lists.specs.Lists.{chain}
 use Rattle.base_lists.proofs.Build.{same_or}
 use Rattle.sheet_operator.specs.Op.{Abstract}
@@ -18,14 +20,13 @@ use Rattle.sheet_format.specs.Record.{op_bytes}
 use Rattle.base_bounds.specs.Bounds.{OPERATORS, INPUT_BYTES}
 use Rattle.sheet_format.specs.Head.{HEAD_BYTES, head_number, head_good}
 use Rattle.sheet_format.proofs.Heads.{ranges_of_good, head_good_of_number, head_room, head_number_most}
-use Rattle.sheet.specs.declared.Answer.TheVariants.{Done, RefusedAt}
 use Rattle.sheet.specs.declared.Sheet.{Sheet}
-use Rattle.sheet.specs.Answer.{accepted, paper}
+use Rattle.sheet.specs.Answer.{accepted, refused_for}
 use Rattle.sheet.specs.Sheet.{view_sheet, memory_sheet}
 use Rattle.sheet.specs.Check.{Kept, stopped, kept, next_record, check_of}
 use Rattle.sheet.proofs.Accepted.{facts_accepted}
-use Rattle.sheet.proofs.AnswerLaws.{same_refusal, accepted_apart}
-use Rattle.codec_read.specs.declared.Front as codec
+use Rattle.sheet.proofs.AnswerLaws.{accepted_apart, refusal_apart}
+use Rattle.codec_read.specs.declared.Front.{Front}
 use Rattle.codec_read.specs.Read.{read_from, head_in, front_of, front_answer, front_sheet, front_end, front_whole}
 use Rattle.codec_read.specs.Fronts.{Fronts}
 use Rattle.codec_read.proofs.Follow.{with_all}
@@ -34,9 +35,8 @@ use Rattle.codec_read.proofs.InMemory.{accepted_memory}
 use Rattle.codec_read.proofs.Chain.{Holds, Halts, read_cases}
 use Rattle.codec_read.proofs.Reading.{front_good, front_bad}
 use Rattle.bench_records.specs.Records.{start, feeds_from}
-use Rattle.bench_trial.specs.declared.Tried.{Tried}
 use Rattle.bench_trial.specs.Trial.{refusal, fed_trial, kept_trial, trial_of}
-use Rattle.bench_trial.specs.Tries.{tried_of, Tries, WholeFront, trial_after}
+use Rattle.bench_trial.specs.Tries.{Tries, WholeFront, trial_after}
 use Rattle.bench_trial.proofs.Ending.{refused_tries}
 
 -- what is kept of the front: a good head, operators that follow each other, and the bytes after them
@@ -109,21 +109,7 @@ front_keeps s a rest below e =
 stopped_apart : (m p n q : ℕ) → stopped m p ≡ stopped n q → (m ≡ n) × (p ≡ q)
 stopped_apart m p n q e = (cc, cc)
 
--- no refusal of the front is 0
-pub front_stops : (s : List ℕ) (number spot : ℕ) → front_of s ≡ stopped number spot → number ≡ 0 → ⊥
-front_stops s number spot e o =
-    ⊎_elim
-    (λ (z : head_number s ≡ 0).
-    let g : read_from (get_or s 7 0) (head_in s) (drop HEAD_BYTES s) ≡ stopped number spot = front_read s z ∙ e in
-    ⊎_elim
-    (λ (h : Holds (get_or s 7 0) (head_in s) (drop HEAD_BYTES s)). let f = sym h.reads ∙ g in let y : ◌≡◌ {A = ℕ} 0 1 = cc in omega arith)
-    (λ (h : Halts (get_or s 7 0) (head_in s) (drop HEAD_BYTES s)).
-    omega (arith, h.least, (stopped_apart h.number h.spot number spot (sym h.reads ∙ g)).0))
-    (read_cases (get_or s 7 0) (head_in s) (drop HEAD_BYTES s)))
-    (λ (ne : head_number s ≡ 0 → ⊥). ne ((stopped_apart (head_number s) 0 number spot (sym (front_bad s (head_number s) refl ne) ∙ e)).0 ∙ o))
-    (same_or (head_number s) 0)
-
--- its number and record are small
+-- the number and record of a refusal of the front are small
 pub front_small : (s : List ℕ) (number spot : ℕ) → front_of s ≡ stopped number spot → (number ≤ 7) × (spot ≤ OPERATORS)
 front_small s number spot e =
     ⊎_elim
@@ -152,40 +138,38 @@ pub input_front : (s : List ℕ) (k : Kept) → length s ≤ INPUT_BYTES → fro
 unfolding trial_of
 input_front s k l e = rw (le-leb (length s) INPUT_BYTES l) (ap kept_trial e)
 
-module _ (s : List ℕ) (l : length s ≤ INPUT_BYTES) (f : codec.Front) (h : Fronts s f) where
+module _ (s : List ℕ) (l : length s ≤ INPUT_BYTES) where
   -- the sheet is refused
-  refused_as : (k : Kept) (number spot : ℕ) → front_of s ≡ k → f.answer ≡ RefusedAt number spot → trial_of s ≡ refusal number spot
-  refused_as (stopped m p) number spot e d =
-      let q = same_refusal m number p spot (sym (h.answer ∙ ap front_answer e) ∙ ap paper d) in
-      input_front s (stopped m p) l e ∙ ap (λ (k : ℕ). refusal k p) q.0 ∙ ap (refusal number) q.1
-  refused_as (kept a rest) number spot e d = absurd (accepted_apart number spot (sym (h.answer ∙ ap front_answer e) ∙ ap paper d))
+  refused_as : {e : Refusal} (k : Kept) → front_of s ≡ k → refused_for e.reason e.spot ≡ front_answer k → (st : List ℤ) →
+      Tries (trial_of s) st (Err e) st
+  refused_as (stopped m p) z d st = refused_tries (input_front s (stopped m p) l z) d st
+  refused_as {e = e} (kept a rest) z d st = absurd (refusal_apart e.reason e.spot (sym d))
 
-  pub front_refused : (number spot : ℕ) (r : Tried) (st : List ℤ) → f.answer ≡ RefusedAt number spot → r ≡ tried_of (refusal number spot) →
-      Tries (trial_of s) st r st
-  front_refused number spot r st d q = refused_tries (trial_of s) number spot (refused_as (front_of s) number spot refl d) r st q
+  pub front_refused : {e : Refusal} → Fronts s (Err e) → (st : List ℤ) → Tries (trial_of s) st (Err e) st
+  front_refused h st = refused_as (front_of s) refl h.answer st
 
+module _ (s : List ℕ) (l : length s ≤ INPUT_BYTES) {f : Front} (h : Fronts s (Ok f)) where
   -- the sheet is read, and a queue is never defined
-  gap_as : (k : Kept) → front_of s ≡ k → f.answer ≡ Done → f.whole ≡ false → trial_of s ≡ refusal 5 (f.sheet.count + 1)
-  gap_as (stopped m p) e d w = absurd (accepted_apart m p (sym (ap paper d) ∙ h.answer ∙ ap front_answer e))
-  gap_as (kept a rest) e d w =
+  gap_as : (k : Kept) → front_of s ≡ k → f.whole ≡ false → trial_of s ≡ refusal 5 (f.sheet.count + 1)
+  gap_as (stopped m p) e w = absurd (accepted_apart m p (h.answer ∙ ap front_answer e))
+  gap_as (kept a rest) e w =
       let n : next_record a ≡ f.sheet.count + 1 = ap (λ (t : Sheet). t.count + 1) (sym (h.sheet ∙ ap front_sheet e)) in
       let v : whole a.queues (known a) ≡ false = sym (h.whole ∙ ap front_whole e) ∙ w in
       input_front s (kept a rest) l e
       ∙ ap (λ (b : Bool). cond b (fed_trial a (feeds_from (length rest) a start (next_record a) rest)) (refusal 5 (next_record a))) v
       ∙ ap (refusal 5) n
 
-  pub front_gap : (spot : ℕ) (r : Tried) (st : List ℤ) → f.answer ≡ Done → f.whole ≡ false → spot ≡ f.sheet.count + 1 →
-      r ≡ tried_of (refusal 5 spot) → Tries (trial_of s) st r st
-  front_gap spot r st d w e q = refused_tries (trial_of s) 5 spot (gap_as (front_of s) refl d w ∙ ap (refusal 5) (sym e)) r st q
+  pub front_gap : f.whole ≡ false → trial_of s ≡ refusal 5 (f.sheet.count + 1)
+  front_gap w = gap_as (front_of s) refl w
 
   -- the sheet is read whole
   pub record Whole : Type 0 where
     pub front : WholeFront f.sheet f.end s
     pub trial : trial_after f.sheet (drop f.end s) ≡ trial_of s
 
-  whole_as : (k : Kept) → ((j : ℕ) → get_or s j 0 < 256) → front_of s ≡ k → f.answer ≡ Done → f.whole ≡ true → Whole
-  whole_as (stopped m p) below e d w = absurd (accepted_apart m p (sym (ap paper d) ∙ h.answer ∙ ap front_answer e))
-  whole_as (kept a rest) below e d w =
+  whole_as : (k : Kept) → ((j : ℕ) → get_or s j 0 < 256) → front_of s ≡ k → f.whole ≡ true → Whole
+  whole_as (stopped m p) below e w = absurd (accepted_apart m p (h.answer ∙ ap front_answer e))
+  whole_as (kept a rest) below e w =
       let g = front_keeps s a rest below e in
       let t : f.sheet ≡ memory_sheet a = h.sheet ∙ ap front_sheet e in
       let v : whole a.queues (known a) ≡ true = sym (h.whole ∙ ap front_whole e) ∙ w in
@@ -203,5 +187,5 @@ module _ (s : List ℕ) (l : length s ≤ INPUT_BYTES) (f : codec.Front) (h : Fr
             ∙ sym (input_front s (kept a rest) l e);
       }
 
-  pub front_whole_lem : ((j : ℕ) → get_or s j 0 < 256) → f.answer ≡ Done → f.whole ≡ true → Whole
-  front_whole_lem below d w = whole_as (front_of s) below refl d w
+  pub front_whole_lem : ((j : ℕ) → get_or s j 0 < 256) → f.whole ≡ true → Whole
+  front_whole_lem below w = whole_as (front_of s) below refl w

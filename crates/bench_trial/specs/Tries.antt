@@ -1,8 +1,10 @@
 -- What trying an input answers and leaves in the lent store, and what its parts answer, against the definitions.
-use Rattle.std.specs.Prelude.{◌≡◌, true, false, List, ℕ, ◌≤◌, length, drop, ℤ}
+use Rattle.std.specs.Prelude.{◌≡◌, true, false, List, ℕ, ◌≤◌, length, drop, ℤ, Result}
+use Rattle.std.specs.Result.{result_unwrap_or}
+use Rattle.base_refusal.specs.declared.Refusal.{Refusal}
 use Rattle.base_bounds.specs.Bounds.{INPUT_BYTES}
 use Rattle.sheet.specs.declared.Sheet.{Sheet}
-use Rattle.sheet.specs.Answer.{accepted}
+use Rattle.sheet.specs.Answer.{Paper, accepted, refused_at, paper}
 use Rattle.sheet.specs.Sheet.{view_sheet, memory_sheet, no_sheet}
 use Rattle.sheet.specs.Check.{check_of}
 use Rattle.run_machine.specs.declared.State.{State}
@@ -17,15 +19,19 @@ use Rattle.bench_trial.specs.Trial.{Trial, refusal, ended, fed_trial, at_rest}
 
 -- ---- the whole
 
--- the answer: of a refused input its number and record, with no firings, no sheet and a fresh state in their places;
--- else 0 for no refusal, the counts, and where the run ended
+-- the answer: of a refused input its number and record
+abbrev pub answer_of : Trial → Paper
+answer_of (refusal number spot) = refused_at number spot
+answer_of (ended a r) = accepted
+
+-- what stands in the other places then: no firings, no sheet and a fresh state; else the counts, and where the run ended
+abbrev pub none_tried : Tried
+none_tried = record { fired = 0; skipped = 0; rest = false; sheet = no_sheet; state = fresh_state }
+
 abbrev pub tried_of : Trial → Tried
-tried_of (refusal number spot) =
-    record { number = number; spot = spot; fired = 0; skipped = 0; rest = false; sheet = no_sheet; state = fresh_state }
+tried_of (refusal number spot) = none_tried
 tried_of (ended a r) =
     record {
-      number = 0;
-      spot = 0;
       fired = r.fired;
       skipped = r.skipped;
       rest = at_rest a r.machine;
@@ -38,8 +44,9 @@ abbrev pub store_after : List ℤ → Trial → List ℤ
 store_after s (refusal number spot) = s
 store_after s (ended a r) = store_in r.machine
 
-pub record Tries (f : Trial) (before : List ℤ) (r : Tried) (after : List ℤ) : Type 0 where
-  pub answered : r ≡ tried_of f
+pub record Tries (f : Trial) (before : List ℤ) (r : Result Tried Refusal) (after : List ℤ) : Type 0 where
+  pub answered : paper r ≡ answer_of f
+  pub tried : result_unwrap_or r none_tried ≡ tried_of f
   pub stored : after ≡ store_after before f
 
 -- ---- its parts

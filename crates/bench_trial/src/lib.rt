@@ -1,7 +1,7 @@
 // One input of `bench`: a sheet, then feeds, then firings; what it comes to. A refused input leaves the lent store as it was.
 #![tactic(auto)]
 
-ghost use Rattle.std.specs.Prelude.{◌≡◌, true, length, drop};
+ghost use Rattle.std.specs.Prelude.{◌≡◌, true, length, drop, Ok};
 ghost use Rattle.sheet.specs.Sheet.{view_sheet, memory_sheet};
 ghost use Rattle.run_store.specs.Store.{STORE};
 ghost use Rattle.run_machine.specs.Machine.{run_m};
@@ -9,11 +9,12 @@ ghost use Rattle.run_machine.specs.Numbers.{decode};
 ghost use Rattle.run_machine.specs.Working.{Stands};
 ghost use Rattle.bench_records.specs.Records.{start, all_fed};
 ghost use Rattle.bench_records.specs.Looks.{feeds_after};
-ghost use Rattle.bench_trial.specs.Trial.{refusal, ended, trial_of};
-ghost use Rattle.bench_trial.specs.Tries.{tried_of, Tries, WholeFront, trial_after, fired_after, Feedable, FeedsTo};
+ghost use Rattle.bench_trial.specs.Trial.{ended, trial_of};
+ghost use Rattle.bench_trial.specs.Tries.{Tries, WholeFront, trial_after, fired_after, Feedable, FeedsTo};
 
+use base_refusal::{Reason, Refusal};
 use run_machine::State;
-use sheet::{Answer, Sheet};
+use sheet::Sheet;
 
 // The longest input that is taken.
 pub const INPUT: usize = base_bounds::INPUT_BYTES;
@@ -21,11 +22,9 @@ pub const INPUT: usize = base_bounds::INPUT_BYTES;
 // More firings than the longest input has.
 const LIST: usize = INPUT / bench_records::FIRING_BYTES + 1;
 
-// What an input comes to: its refusal, 0 for none, and the record; else the counts, the rest, and the sheet with its state.
+// What an input comes to: the counts, the rest, and the sheet with its state.
 #[derive(Clone, Copy)]
 pub struct Tried {
-    pub number: u8,
-    pub spot: usize,
     pub fired: usize,
     pub skipped: usize,
     pub rest: bool,
@@ -43,9 +42,7 @@ fn feed_all(s: &[u8], from: usize, t: Sheet, state: State, store: &mut [i32]) ->
     while bench_records::is_feed(s, at) {
         let x = bench_records::item_at(s, at);
         let q = s[at + sheet_format::HEADER];
-        let f = run_calls::feed_known(t, q, x, st, &mut *store);
-        let next = f.state;
-        st = next;
+        st = run_calls::feed_known(t, q, x, st, &mut *store).unwrap_or(st);
         at += bench_records::FEED_BYTES;
     }
     st
@@ -55,14 +52,12 @@ fn feed_all(s: &[u8], from: usize, t: Sheet, state: State, store: &mut [i32]) ->
 fn run_list(t: Sheet, state: State, store: &mut [i32], list: &[u8]) -> Tried
     requires { Stands t state store.old × (memory_sheet (view_sheet t) ≡ t) }
     ensures { Tries (ended (view_sheet t) (run_m (view_sheet t) list.now (decode state store.old)))
-        store.old result store.new }
+        store.old (Ok result) store.new }
 {
     let f = run_calls::run_known(t, state, &mut *store, list);
     let after = f.state;
     let ready = run_ready::ready_known(t, after, &*store);
     Tried {
-        number: 0,
-        spot: 0,
         fired: f.fired,
         skipped: f.skipped,
         rest: ready == 0,
@@ -72,78 +67,37 @@ fn run_list(t: Sheet, state: State, store: &mut [i32], list: &[u8]) -> Tried
 }
 
 // A fresh start, the feeds, none of which is refused, and the firings of the list.
-fn run_all(s: &[u8], end: usize, t: Sheet, store: &mut [i32], list: &[u8]) -> Tried
+fn run_all(s: &[u8], end: usize, t: Sheet, store: &mut [i32], list: &[u8]) -> Result<Tried, Refusal>
     requires { WholeFront t end s.now × (length store.old ≡ STORE) × (all_fed (feeds_after t start (drop end s.now)) ≡ true) }
     ensures { Tries (fired_after t (drop end s.now) list.now) store.old result store.new }
 {
-    let blank = State {
-        counts: [0; run_machine::QUEUES],
-        vars: [0; run_machine::VARIABLES],
-    };
-    let z = runner::fresh(blank, &mut *store);
-    let state = z.state;
+    let state = runner::fresh(&mut *store)?;
     let st = feed_all(s, end, t, state, &mut *store);
-    run_list(t, st, &mut *store, list)
-}
-
-fn refused(number: u8, spot: usize) -> Tried
-    ensures { result ≡ tried_of (refusal number spot) }
-{
-    let sheet = sheet::no_sheet();
-    Tried {
-        number,
-        spot,
-        fired: 0,
-        skipped: 0,
-        rest: false,
-        sheet,
-        state: State {
-            counts: [0; run_machine::QUEUES],
-            vars: [0; run_machine::VARIABLES],
-        },
-    }
+    Ok(run_list(t, st, &mut *store, list))
 }
 
 // The feeds and firings after a whole sheet: the first refusal in record order, and only if there is none the run.
-fn try_sheet(s: &[u8], t: Sheet, end: usize, store: &mut [i32]) -> Tried
+fn try_sheet(s: &[u8], t: Sheet, end: usize, store: &mut [i32]) -> Result<Tried, Refusal>
     requires { WholeFront t end s.now × (length store.old ≡ STORE) }
     ensures { Tries (trial_after t (drop end s.now)) store.old result store.new }
 {
-    let f = bench_records::look_feeds(s, end, t);
-    let first = f.number;
-    if first != 0 {
-        return refused(first, f.spot);
-    }
-    let at = f.at;
+    let f = bench_records::look_feeds(s, end, t)?;
     let mut list = [0u8; LIST];
-    let l = bench_records::list_firings(s, at, f.spot, &mut list);
-    let next = l.number;
-    if next != 0 {
-        return refused(next, l.spot);
-    }
-    let n = l.count;
+    let n = bench_records::list_firings(s, f.at, f.spot, &mut list)?;
     run_all(s, end, t, &mut *store, &list[..n])
 }
 
 // What an input comes to. Where it is not refused, the queues' items are left in the store.
-pub fn try_input(s: &[u8], store: &mut [i32]) -> Tried
+pub fn try_input(s: &[u8], store: &mut [i32]) -> Result<Tried, Refusal>
     requires { length store.old ≡ STORE }
     ensures { Tries (trial_of s.now) store.old result store.new }
 {
     if INPUT < s.len() {
-        return refused(18, 0);
+        return Err(Reason::TooShort.at(0));
     }
-    let f = codec_read::read_front(s);
-    let a = f.answer;
-    let t = f.sheet;
-    match a {
-        Answer::Done => {
-            if !f.whole {
-                return refused(5, t.count as usize + 1);
-            }
-            try_sheet(s, t, f.end, &mut *store)
-        }
-        Answer::RefusedAt { number, spot } => refused(number, spot as usize),
-        Answer::Refused { number } => refused(number, 0),
+    let f = codec_read::read_front(s)?;
+    if !f.whole {
+        return Err(Reason::QueueNotOnce.at(f.sheet.count as usize + 1));
     }
+    try_sheet(s, f.sheet, f.end, &mut *store)
 }

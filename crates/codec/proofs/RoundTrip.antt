@@ -2,21 +2,21 @@
 -- Assumes nothing.
 use mathlib.Core.Path.{◌≡◌, refl, ap, ◌∙◌, sym}
 use mathlib.Core.Logic.{⊎_elim}
-use mathlib.Core.Bool.{Bool, false, cond}
+use mathlib.Core.Bool.{Bool, cond}
 use mathlib.Core.List.{List}
 use Prim.Native.Nat.{ℕ, ◌<◌, ◌≤◌}
 use native.Mathlib.Omega.{arith}
 use lib.ListN.{length, take, drop, length-append}
 use Rattle.base_lists.proofs.Build.{order, never}
-use Rattle.sheet.specs.declared.Answer.TheVariants.{Done}
+use Rattle.std.specs.Prelude.{Result, Ok, Err}
+use Rattle.std.specs.Result.{result_unwrap_or}
+use Rattle.base_refusal.specs.declared.Refusal.{Refusal}
 use Rattle.sheet.specs.declared.Sheet.{Sheet}
 use Rattle.sheet.specs.Answer.{Paper, paper, accepted, refused_at, is_accepted}
 use Rattle.sheet.specs.Sheet.{view_sheet, no_sheet, HeldSheet}
 use Rattle.sheet.specs.Check.{check_of}
 use Rattle.sheet.proofs.Accepted.{Accepted, Refuses, facts_accepted, check_answers}
-use Rattle.sheet.proofs.AnswerLaws.{accepted_apart}
-use Rattle.codec_read.specs.declared.ReadSheet.{ReadSheet}
-use Rattle.codec_write.specs.declared.Written.{Written}
+use Rattle.sheet.proofs.AnswerLaws.{accepted_apart, refusal_refuses, value_of}
 use Rattle.codec_read.specs.Read.{Reading, read_of}
 use Rattle.codec_write.specs.Write.{sheet_bytes, Writing, write_of, Writes}
 use Rattle.codec_read.specs.Fronts.{Reads}
@@ -45,47 +45,45 @@ room_of_answer t l h =
     (sym h ∙ ap (λ (w : Writing). w.answer) (written_refused t l (refused_at r.number r.spot) r.refuses refl))))
     (check_answers t)
 
-module _ (t : Sheet) (l m : List ℕ) (w : Written) (wrote : Writes t l m w) where
-  -- what was written lies in the buffer, and is read as the sheet
-  module _ (done : w.answer ≡ Done) where
-    answered : (write_of t l).answer ≡ accepted
-    answered = sym wrote.answer ∙ ap paper done
+-- what was written lies in the buffer, and is read as the sheet
+module _ (t : Sheet) (l m : List ℕ) (n : ℕ) (wrote : Writes t l m (Ok n)) where
+  answered : (write_of t l).answer ≡ accepted
+  answered = sym wrote.answer
 
-    had : Room t l
-    had = room_of_answer t l answered
+  had : Room t l
+  had = room_of_answer t l answered
 
-    pub size_in_buffer : w.size ≤ length m
-    size_in_buffer =
-        let bytes = sheet_bytes (view_sheet t) in
-        let e = write_of_room t l bytes had.good refl had.room in
-        let n = wrote.size ∙ ap (λ (x : Writing). x.size) e in
-        let b = ap length (wrote.buffer ∙ ap (λ (x : Writing). x.buffer) e) ∙ length-append bytes (drop (length bytes) l) in
-        omega arith
+  pub size_in_buffer : n ≤ length m
+  size_in_buffer =
+      let bytes = sheet_bytes (view_sheet t) in
+      let e = write_of_room t l bytes had.good refl had.room in
+      let k = wrote.size ∙ ap (λ (x : Writing). x.size) e in
+      let b = ap length (wrote.buffer ∙ ap (λ (x : Writing). x.buffer) e) ∙ length-append bytes (drop (length bytes) l) in
+      omega arith
 
-    pub again_done : HeldSheet t → (r : ReadSheet) → Reads (take w.size m) r → Agains t l m r
-    again_done held r reads =
-        let e =
-        ap (λ (n : ℕ). read_of (take n m)) wrote.size ∙ ap (λ (b : List ℕ). read_of (take (write_of t l).size b)) wrote.buffer
-        ∙ read_of_written t l held had.good had.room in
-        let a : paper r.answer ≡ accepted = reads.answer ∙ ap (λ (x : Reading). x.answer) e in
-        let s : r.sheet ≡ t = reads.sheet ∙ ap (λ (x : Reading). x.sheet) e in
-        record {
-          same = λ good room. (a, s);
-          answer = a ∙ sym answered;
-          sheet = s ∙ ap (λ (p : Paper). cond (is_accepted p) t no_sheet) (sym answered);
-          buffer = wrote.buffer;
-        }
-
-  -- a writing's refusal is the answer, with the one fixed sheet
-  pub again_refused : (r : ReadSheet) → is_accepted (paper w.answer) ≡ false → paper r.answer ≡ paper w.answer → r.sheet ≡ no_sheet → Agains t l m r
-  again_refused r f a s =
-      let e = wrote.answer in
+  pub again_done : HeldSheet t → (r : Result Sheet Refusal) → Reads (take n m) r → Agains t l m r
+  again_done held r reads =
+      let e =
+      ap (λ (k : ℕ). read_of (take k m)) wrote.size ∙ ap (λ (b : List ℕ). read_of (take (write_of t l).size b)) wrote.buffer
+      ∙ read_of_written t l held had.good had.room in
+      let a : paper r ≡ accepted = reads.answer ∙ ap (λ (x : Reading). x.answer) e in
+      let s : result_unwrap_or r no_sheet ≡ t = reads.sheet ∙ ap (λ (x : Reading). x.sheet) e in
       record {
-        same = λ good room.
-            never
-            (sym f
-            ∙ ap is_accepted (e ∙ ap (λ (x : Writing). x.answer) (write_of_room t l (sheet_bytes (view_sheet t)) good refl room)));
-        answer = a ∙ e;
-        sheet = s ∙ ap (λ (b : Bool). cond b t no_sheet) (sym f ∙ ap is_accepted e);
+        same = λ good room. value_of r no_sheet a ∙ ap Ok s;
+        answer = a ∙ sym answered;
+        sheet = s ∙ ap (λ (p : Paper). cond (is_accepted p) t no_sheet) (sym answered);
         buffer = wrote.buffer;
       }
+
+-- a writing's refusal is the answer
+pub again_refused : (t : Sheet) (l m : List ℕ) (d : Refusal) → Writes t l m (Err d) → Agains t l m (Err d)
+again_refused t l m d wrote =
+    let f = refusal_refuses d.reason d.spot in
+    record {
+      same = λ good room.
+          never
+          (sym f ∙ ap is_accepted (wrote.answer ∙ ap (λ (x : Writing). x.answer) (write_of_room t l (sheet_bytes (view_sheet t)) good refl room)));
+      answer = wrote.answer;
+      sheet = ap (λ (b : Bool). cond b t no_sheet) (sym f ∙ ap is_accepted wrote.answer);
+      buffer = wrote.buffer;
+    }

@@ -4,14 +4,17 @@ use mathlib.Core.Path.{◌≡◌, refl, ap, ◌∙◌, sym}
 use mathlib.Core.Logic.{⊎_elim}
 use mathlib.Core.Bool.{Bool, true, false, cond, not, ◌&&◌}
 use mathlib.Core.List.{List, [], ◌∷◌}
-use mathlib.Core.Option.{some, none}
 use Prim.Native.Nat.{ℕ, zero, suc, ◌+◌, ◌-◌, ◌≤◌}
 use native.Mathlib.Omega.{arith}
 use lib.Dec.{eqb}
 use lib.ListN.{length, get_or, drop, length-drop, length-append}
 use borrow.Author.Tests.{eq-eqb, ne_eqb}
+use Rattle.std.specs.Prelude.{Result, Ok, Err, Some}
 use Rattle.base_number.specs.Number.{short_of}
 use Rattle.base_lists.proofs.Build.{same_or}
+use Rattle.base_refusal.specs.declared.Reason.{Reason}
+use Rattle.base_refusal.specs.declared.Refusal.{Refusal}
+use Rattle.base_refusal.specs.Refusal.{number_of, refusal}
 use Rattle.sheet_operator.specs.Op.{Op, Abstract, with}
 use Rattle.sheet_operator.specs.Memory.{is_empty}
 use Rattle.sheet_judge.specs.Judge.{known, whole}
@@ -19,32 +22,31 @@ use Rattle.sheet_format.specs.Record.{HEADER, cut, body_good, kind_of, op_of, ba
 use Rattle.sheet_format.specs.Head.{HEAD_BYTES, head_number}
 use Rattle.base_bounds.specs.Bounds.{OPERATORS}
 use Rattle.sheet_format.proofs.Heads.{ranges_of_good, head_good_of_number}
-use Rattle.sheet.specs.declared.Answer.TheVariants.{Done, RefusedAt, Refused}
 use Rattle.sheet.specs.declared.Sheet.{Sheet}
-use Rattle.sheet.specs.Answer.{paper, accepted, refused_at, is_accepted}
+use Rattle.sheet.specs.Answer.{accepted, refused_at, is_accepted}
 use Rattle.sheet.specs.Sheet.{memory_sheet, no_sheet}
 use Rattle.sheet.specs.Check.{Kept, stopped, kept, ending}
-use Rattle.sheet.proofs.AnswerLaws.{paper_record}
+use Rattle.sheet.proofs.AnswerLaws.{accepted_apart, refusal_apart}
 use Rattle.codec_read.specs.declared.Front.{Front}
-use Rattle.codec_read.specs.declared.ReadSheet.{ReadSheet}
 use Rattle.codec_read.specs.Read.{number_after, read_from, head_in, front_of, front_answer, front_sheet, front_end, front_whole, read_end, read_of}
 use Rattle.codec_read.specs.Fronts.{Fronts, Ends, Reads}
 use Rattle.codec_read.proofs.Turns.{read_more, read_refuse, read_none}
 use Rattle.codec_read.proofs.Reading.{front_good, front_bad}
 
 -- how reading the head and the operators ended, as the function answers it
-pub fronts_stopped : (s : List ℕ) (r : Front) {number spot : ℕ} → front_of s ≡ stopped number spot →
-    (r.answer ≡ RefusedAt number spot) × (r.sheet ≡ no_sheet) × (r.end ≡ 0) × (r.whole ≡ false) → Fronts s r
-fronts_stopped s r e h =
-    record {
-      answer = ap paper h.0 ∙ ap front_answer (sym e);
-      sheet = h.1 ∙ ap front_sheet (sym e);
-      end = h.2 ∙ ap (front_end (length s)) (sym e);
-      whole = h.3 ∙ ap front_whole (sym e);
-    }
+pub fronts_stopped : (s : List ℕ) (e : Refusal) (reason : Reason) (spot : ℕ) → front_of s ≡ stopped (number_of reason) spot →
+    e ≡ refusal reason (Some spot) → Fronts s (Err e)
+fronts_stopped s e reason spot f h =
+    rw h
+    (record {
+      answer = ap front_answer (sym f);
+      sheet = ap front_sheet (sym f);
+      end = ap (front_end (length s)) (sym f);
+      whole = ap front_whole (sym f);
+    })
 
 pub fronts_kept : (s : List ℕ) (a : Abstract) (t : Sheet) (at : ℕ) (w : Bool) → front_of s ≡ kept a (drop at s) → t ≡ memory_sheet a → at ≤ length s →
-    w ≡ whole a.queues (known a) → Fronts s (record { answer = Done; sheet = t; end = at; whole = w })
+    w ≡ whole a.queues (known a) → Fronts s (Ok (record { sheet = t; end = at; whole = w }))
 fronts_kept s a t at w e h b d =
     let n : at ≡ length s - length (drop at s) = omega (arith, length-drop at s) in
     record {
@@ -112,39 +114,19 @@ end_sheet true true n t = refl
 end_sheet true false n t = refl
 end_sheet false w n t = refl
 
-module _ (s : List ℕ) (f : Front) (h : Fronts s f) where
-  -- the answer, by how reading the head and the operators ended
-  answer_as : (k : Kept) → front_of s ≡ k → paper f.answer ≡ front_answer k
-  answer_as k e = h.answer ∙ ap front_answer e
+-- a front that was read, up to the end of the bytes
+module _ (s : List ℕ) (f : Front) (h : Fronts s (Ok f)) where
+  count_as : (k : Kept) → front_of s ≡ k → f.sheet.count ≤ OPERATORS
+  count_as (stopped m p) e = absurd (accepted_apart m p (h.answer ∙ ap front_answer e))
+  count_as (kept a rest) e = omega (arith, (front_kept s a rest e).1, ap (λ (t : Sheet). t.count) (h.sheet ∙ ap front_sheet e))
 
-  done_stopped : (m p : ℕ) → front_of s ≡ stopped m p → f.answer ≡ Done → ⊥
-  done_stopped m p e d = let z = ap paper (sym d) ∙ answer_as (stopped m p) e in let y : ◌≡◌ {A = ℕ} 0 1 = cc in omega arith
+  pub front_count : f.sheet.count ≤ OPERATORS
+  front_count = count_as (front_of s) refl
 
-  refused_kept : (a : Abstract) (rest : List ℕ) (number spot : ℕ) → front_of s ≡ kept a rest → f.answer ≡ RefusedAt number spot → ⊥
-  refused_kept a rest number spot e d = let z = ap paper (sym d) ∙ answer_as (kept a rest) e in let y : ◌≡◌ {A = ℕ} 0 1 = cc in omega arith
-
-  -- no refusal of reading is without a record
-  alone_as : (n : ℕ) (k : Kept) → front_of s ≡ k → f.answer ≡ Refused n → ⊥
-  alone_as n (stopped m p) e d =
-      let z : none ≡ some p = ap paper_record (ap paper (sym d) ∙ answer_as (stopped m p) e) in
-      let y : ◌≡◌ {A = ℕ} 0 1 = cc in
-      omega arith
-  alone_as n (kept a rest) e d = let z = ap paper (sym d) ∙ answer_as (kept a rest) e in let y : ◌≡◌ {A = ℕ} 0 1 = cc in omega arith
-
-  pub reads_has_record : (n : ℕ) → f.answer ≡ Refused n → ⊥
-  reads_has_record n d = alone_as n (front_of s) refl d
-
-  count_as : (k : Kept) → front_of s ≡ k → f.answer ≡ Done → f.sheet.count ≤ OPERATORS
-  count_as (stopped m p) e d = absurd (done_stopped m p e d)
-  count_as (kept a rest) e d = omega (arith, (front_kept s a rest e).1, ap (λ (t : Sheet). t.count) (h.sheet ∙ ap front_sheet e))
-
-  pub front_count : f.answer ≡ Done → f.sheet.count ≤ OPERATORS
-  front_count d = count_as (front_of s) refl d
-
-  ended_as : (r : ReadSheet) (k : Kept) → front_of s ≡ k → f.answer ≡ Done → Ends (length s) f.sheet f.end f.whole r → Reads s r
+  ended_as : (r : Result Sheet Refusal) (k : Kept) → front_of s ≡ k → Ends (length s) f r → Reads s r
   unfolding read_of ending
-  ended_as r (stopped m p) e d g = absurd (done_stopped m p e d)
-  ended_as r (kept a rest) e d g =
+  ended_as r (stopped m p) e g = absurd (accepted_apart m p (h.answer ∙ ap front_answer e))
+  ended_as r (kept a rest) e g =
       let t = h.sheet ∙ ap front_sheet e in
       let w = h.whole ∙ ap front_whole e in
       let o = over_eq (length s) (length rest) f.end (front_kept s a rest e).0 (h.end ∙ ap (front_end (length s)) e) in
@@ -155,19 +137,18 @@ module _ (s : List ℕ) (f : Front) (h : Fronts s f) where
         sheet = g.sheet ∙ rw (o, t, w) (end_sheet b v (length a.ops + 1) (memory_sheet a)) ∙ ap (λ (k : Kept). (read_end k).sheet) (sym e);
       }
 
-  pub reads_ended : (r : ReadSheet) → f.answer ≡ Done → Ends (length s) f.sheet f.end f.whole r → Reads s r
-  reads_ended r d g = ended_as r (front_of s) refl d g
+  pub reads_ended : (r : Result Sheet Refusal) → Ends (length s) f r → Reads s r
+  reads_ended r g = ended_as r (front_of s) refl g
 
-  refused_as : (r : ReadSheet) (number spot : ℕ) (k : Kept) → front_of s ≡ k → f.answer ≡ RefusedAt number spot →
-      (r.answer ≡ RefusedAt number spot) × (r.sheet ≡ no_sheet) → Reads s r
-  unfolding read_of
-  refused_as r number spot (stopped m p) e d g =
-      record {
-        answer = ap paper (g.0 ∙ sym d) ∙ answer_as (stopped m p) e ∙ ap (λ (k : Kept). (read_end k).answer) (sym e);
-        sheet = g.1 ∙ ap (λ (k : Kept). (read_end k).sheet) (sym e);
-      }
-  refused_as r number spot (kept a rest) e d g = absurd (refused_kept a rest number spot e d)
+-- a front that is refused
+refused_as : (s : List ℕ) (d : Refusal) (k : Kept) → front_of s ≡ k → Fronts s (Err d) → Reads s (Err d)
+unfolding read_of
+refused_as s d (stopped m p) e h =
+    record {
+      answer = h.answer ∙ ap front_answer e ∙ ap (λ (k : Kept). (read_end k).answer) (sym e);
+      sheet = ap (λ (k : Kept). (read_end k).sheet) (sym e);
+    }
+refused_as s d (kept a rest) e h = absurd (refusal_apart d.reason d.spot (sym (h.answer ∙ ap front_answer e)))
 
-  pub reads_refused : (r : ReadSheet) (number spot : ℕ) → f.answer ≡ RefusedAt number spot →
-      (r.answer ≡ RefusedAt number spot) × (r.sheet ≡ no_sheet) → Reads s r
-  reads_refused r number spot d g = refused_as r number spot (front_of s) refl d g
+pub reads_refused : (s : List ℕ) (d : Refusal) → Fronts s (Err d) → Reads s (Err d)
+reads_refused s d h = refused_as s d (front_of s) refl h

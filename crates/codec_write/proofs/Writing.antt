@@ -8,21 +8,24 @@ use native.Mathlib.Omega.{arith}
 use lib.ListN.{length, drop, length-append}
 use lib.Seq.{sets}
 use borrow.Author.Tests.{le-leb, lt-leb}
+use Rattle.std.specs.Prelude.{Result, Ok, Err, Some}
+use Rattle.std.specs.Result.{result_unwrap_or}
 use Rattle.base_lists.specs.Lists.{chain}
 use Rattle.base_lists.proofs.Build.{build_length}
 use Rattle.base_lists.proofs.Sets.{sets_append, sets_front}
 use Rattle.base_lists.proofs.Chains.{chain_snoc}
+use Rattle.base_refusal.specs.declared.Reason.TheVariants.{TooShort}
+use Rattle.base_refusal.specs.declared.Refusal.{Refusal}
+use Rattle.base_refusal.specs.Refusal.{refusal}
 use Rattle.sheet_operator.specs.Memory.{view}
 use Rattle.sheet_format.specs.Record.{op_bytes}
 use Rattle.sheet_format.specs.Head.{HEAD_BYTES, head_bytes}
 use Rattle.sheet_format.proofs.Heads.{length_head_bytes}
-use Rattle.sheet.specs.declared.Answer.{Answer}
-use Rattle.sheet.specs.declared.Answer.TheVariants.{Done, RefusedAt}
 use Rattle.sheet.specs.declared.Sheet.{Sheet}
-use Rattle.sheet.specs.Answer.{Paper, paper, accepted, refused_at, is_accepted}
+use Rattle.sheet.specs.Answer.{Paper, paper, accepted, refused_at, refused_for, is_accepted}
 use Rattle.sheet.specs.Sheet.{op_at, view_to, view_sheet}
 use Rattle.sheet.specs.Check.{check_of}
-use Rattle.codec_write.specs.declared.Written.{Written}
+use Rattle.sheet.proofs.AnswerLaws.{refusal_refuses}
 use Rattle.codec_write.specs.Write.{sheet_bytes, Writing, writing, writing_of, write_of, Wrote, Writes}
 
 -- the head's bytes, and those of the head and the first i operators
@@ -85,7 +88,7 @@ writes_all s₀ s l t i e p q =
 
 -- ---- what writing answers, by the check and the room, whatever the bytes are
 
-wrote_as : (l m : List ℕ) (r : Written) (v w : Writing) → v ≡ w → paper r.answer ≡ w.answer → r.size ≡ w.size → m ≡ w.buffer → Wrote v m r
+wrote_as : (l m : List ℕ) (r : Result ℕ Refusal) (v w : Writing) → v ≡ w → paper r ≡ w.answer → result_unwrap_or r 0 ≡ w.size → m ≡ w.buffer → Wrote v m r
 wrote_as l m r v w e a n b =
     record {
       answer = a ∙ ap (λ (x : Writing). x.answer) (sym e);
@@ -107,20 +110,18 @@ module _ (t : Sheet) (bytes l : List ℕ) where
   writing_refused : (b : Paper) → check_of t ≡ b → is_accepted b ≡ false → writing_of t bytes l ≡ record { answer = b; size = 0; buffer = l }
   writing_refused b h e = rw (h, e)
 
-  pub wrote_refused : (a b : Answer) → a ≡ b → paper a ≡ check_of t → is_accepted (paper b) ≡ false →
-      Wrote (writing_of t bytes l) l (record { answer = b; size = 0 })
-  wrote_refused a b d e h =
-      wrote_as l l (record { answer = b; size = 0 }) _ _ (writing_refused (paper b) (sym e ∙ ap paper d) h) refl refl refl
+  pub wrote_refused : (e : Refusal) → refused_for e.reason e.spot ≡ check_of t → Wrote (writing_of t bytes l) l (Err e)
+  wrote_refused e h =
+      wrote_as l l (Err e) _ _ (writing_refused (refused_for e.reason e.spot) (sym h) (refusal_refuses e.reason e.spot)) refl refl refl
 
-  pub wrote_short : (n : ℕ) → check_of t ≡ accepted → n ≡ length bytes → length l < n →
-      Wrote (writing_of t bytes l) l (record { answer = RefusedAt 18 0; size = 0 })
+  pub wrote_short : (n : ℕ) → check_of t ≡ accepted → n ≡ length bytes → length l < n → Wrote (writing_of t bytes l) l (Err (refusal TooShort (Some 0)))
   wrote_short n h e b =
-      wrote_as l l (record { answer = RefusedAt 18 0; size = 0 }) _ _ (writing_accepted h ∙ writing_short bytes l (omega arith)) refl refl refl
+      wrote_as l l (Err (refusal TooShort (Some 0))) _ _ (writing_accepted h ∙ writing_short bytes l (omega arith)) refl refl refl
 
   pub wrote_done : (n : ℕ) (after : List ℕ) → check_of t ≡ accepted → n ≡ length bytes → n ≤ length l → after ≡ sets l 0 bytes →
-      Wrote (writing_of t bytes l) after (record { answer = Done; size = n })
+      Wrote (writing_of t bytes l) after (Ok n)
   wrote_done n after h e b d =
-      wrote_as l after (record { answer = Done; size = n }) _ _ (writing_accepted h ∙ writing_fits bytes l (omega arith)) refl e
+      wrote_as l after (Ok n) _ _ (writing_accepted h ∙ writing_fits bytes l (omega arith)) refl e
       (d ∙ sets_front bytes l (omega arith))
 
   pub writing_of_room : check_of t ≡ accepted → length bytes ≤ length l →
@@ -137,17 +138,16 @@ pub written_refused : (t : Sheet) (l : List ℕ) (b : Paper) → check_of t ≡ 
 unfolding write_of
 written_refused t l b h e = writing_refused t (sheet_bytes (view_sheet t)) l b h e
 
-pub writes_refused : (t : Sheet) (l : List ℕ) (a b : Answer) → a ≡ b → paper a ≡ check_of t → is_accepted (paper b) ≡ false →
-    Writes t l l (record { answer = b; size = 0 })
+pub writes_refused : (t : Sheet) (l : List ℕ) (e : Refusal) → refused_for e.reason e.spot ≡ check_of t → Writes t l l (Err e)
 unfolding write_of
-writes_refused t l a b d e h = wrote_refused t (sheet_bytes (view_sheet t)) l a b d e h
+writes_refused t l e h = wrote_refused t (sheet_bytes (view_sheet t)) l e h
 
 module _ (t : Sheet) (l : List ℕ) (n : ℕ) (h : check_of t ≡ accepted) (e : n ≡ length (sheet_bytes (view_sheet t))) where
-  pub writes_short : length l < n → Writes t l l (record { answer = RefusedAt 18 0; size = 0 })
+  pub writes_short : length l < n → Writes t l l (Err (refusal TooShort (Some 0)))
   unfolding write_of
   writes_short b = wrote_short t (sheet_bytes (view_sheet t)) l n h e b
 
-  pub writes_done : (after : List ℕ) → n ≤ length l → after ≡ sets l 0 (sheet_bytes (view_sheet t)) → Writes t l after (record { answer = Done; size = n })
+  pub writes_done : (after : List ℕ) → n ≤ length l → after ≡ sets l 0 (sheet_bytes (view_sheet t)) → Writes t l after (Ok n)
   unfolding write_of
   writes_done after b d = wrote_done t (sheet_bytes (view_sheet t)) l n after h e b d
 

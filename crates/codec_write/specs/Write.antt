@@ -1,5 +1,7 @@
 -- Writing a sheet: its bytes, and what the lent buffer then holds.
-use Rattle.std.specs.Prelude.{◌≡◌, ℕ, cond, List, ◌++◌, leb, length, drop}
+use Rattle.std.specs.Prelude.{◌≡◌, ℕ, cond, List, ◌++◌, leb, length, drop, Result}
+use Rattle.std.specs.Result.{result_unwrap_or}
+use Rattle.base_refusal.specs.declared.Refusal.{Refusal}
 use Rattle.base_lists.specs.Lists.{chain}
 use Rattle.sheet_operator.specs.Op.{Abstract}
 use Rattle.sheet_format.specs.Record.{op_bytes}
@@ -8,7 +10,6 @@ use Rattle.sheet.specs.declared.Sheet.{Sheet}
 use Rattle.sheet.specs.Answer.{Paper, paper, accepted, refused_at, is_accepted}
 use Rattle.sheet.specs.Sheet.{view_sheet}
 use Rattle.sheet.specs.Check.{check_of}
-use Rattle.codec_write.specs.declared.Written.{Written}
 
 abbrev pub sheet_bytes : Abstract → List ℕ
 sheet_bytes a = head_bytes a.inputs a.queues a.variables (length a.ops) ++ chain op_bytes a.ops
@@ -34,10 +35,10 @@ unfoldable pub write_of : Sheet → List ℕ → Writing
 write_of t l = writing_of t (sheet_bytes (view_sheet t)) l
 
 -- what a function answers and leaves in the buffer, against a definition
-pub record Wrote (w : Writing) (after : List ℕ) (r : Written) : Type 0 where
-  pub answer : paper r.answer ≡ w.answer
-  pub size : r.size ≡ w.size
+pub record Wrote (w : Writing) (after : List ℕ) (r : Result ℕ Refusal) : Type 0 where
+  pub answer : paper r ≡ w.answer
+  pub size : result_unwrap_or r 0 ≡ w.size
   pub buffer : after ≡ w.buffer
 
-abbrev pub Writes : Sheet → List ℕ → List ℕ → Written → Type 0
+abbrev pub Writes : Sheet → List ℕ → List ℕ → Result ℕ Refusal → Type 0
 Writes t before after r = Wrote (write_of t before) after r

@@ -8,14 +8,8 @@ ghost use Rattle.sheet.specs.Sheet.{view_sheet};
 ghost use Rattle.sheet.specs.Check.{check_of};
 ghost use Rattle.codec_write.specs.Write.{sheet_bytes, Writes};
 
-use sheet::{Answer, Sheet};
-
-// What writing answered, and how many bytes it wrote.
-#[derive(Clone, Copy)]
-pub struct Written {
-    pub answer: Answer,
-    pub size: usize,
-}
+use base_refusal::{Reason, Refusal};
+use sheet::Sheet;
 
 // How many bytes an accepted sheet has.
 fn bytes_length(t: Sheet) -> usize
@@ -47,41 +41,23 @@ fn put_sheet(buffer: &mut [u8], t: Sheet)
 }
 
 // The bytes of an accepted sheet where the buffer has room for them.
-fn write_good(t: Sheet, buffer: &mut [u8]) -> Written
+fn write_good(t: Sheet, buffer: &mut [u8]) -> Result<usize, Refusal>
     requires { check_of t ≡ accepted }
     ensures { Writes t buffer.old buffer.new result }
 {
     let n = bytes_length(t);
     if buffer.len() < n {
-        return Written {
-            answer: Answer::RefusedAt {
-                number: 18,
-                spot: 0,
-            },
-            size: 0,
-        };
+        return Err(Reason::TooShort.at(0));
     }
     put_sheet(buffer, t);
-    Written {
-        answer: Answer::Done,
-        size: n,
-    }
+    Ok(n)
 }
 
-// Any sheet in memory into a lent buffer: refusal 1 to 7, or 18 at record 0, with the buffer as it was; else its bytes.
-pub fn write(t: Sheet, buffer: &mut [u8]) -> Written
+// Any sheet in memory into a lent buffer: its bytes, and how many they are; or refusal 1 to 7,
+// or 18 at record 0, with the buffer as it was.
+pub fn write(t: Sheet, buffer: &mut [u8]) -> Result<usize, Refusal>
     ensures { Writes t buffer.old buffer.new result }
 {
-    let a = sheet::check(t);
-    match a {
-        Answer::Done => write_good(t, buffer),
-        Answer::RefusedAt { number, spot } => Written {
-            answer: Answer::RefusedAt { number, spot },
-            size: 0,
-        },
-        Answer::Refused { number } => Written {
-            answer: Answer::Refused { number },
-            size: 0,
-        },
-    }
+    sheet::check(t)?;
+    write_good(t, buffer)
 }

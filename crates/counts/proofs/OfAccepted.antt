@@ -1,6 +1,6 @@
--- What a match on the check's answer says, and what the loops over an accepted sheet's operators need of each: its sizes, and names that have flags.
+-- What the loops over an accepted sheet's operators need of each of them: its sizes, and names that have flags.
 -- Assumes nothing.
-use mathlib.Core.Path.{◌≡◌, ap, ◌∙◌, sym}
+use mathlib.Core.Path.{◌≡◌}
 use mathlib.Core.Bool.{true}
 use Prim.Native.Nat.{ℕ, ◌<◌}
 use native.Mathlib.Omega.{arith}
@@ -12,17 +12,12 @@ use Rattle.sheet_operator.specs.Op.{names}
 use Rattle.sheet_operator.specs.Memory.{view, Ready}
 use Rattle.sheet_operator.proofs.ViewLaws.{ready_of_number, Small, small_view}
 use Rattle.sheet_sets.specs.Sets.{FLAGS}
-use Rattle.sheet.specs.Answer.{accepted, paper}
+use Rattle.sheet.specs.Answer.{accepted}
 use Rattle.sheet.specs.Check.{check_of}
 use Rattle.sheet.specs.Sheet.{op_at}
-use Rattle.sheet.specs.declared.Answer.{Answer}
 use Rattle.sheet.specs.declared.Sheet.{Sheet}
 use Rattle.sheet.proofs.Accepted.{accepted_facts, ranges_of_accepted}
 use Rattle.sheet.proofs.Laws.{variable_below}
-
--- what the check answered is what it has to, as a match's arm has it
-pub check_told : (t : Sheet) (a x : Answer) → a ≡ x → paper a ≡ check_of t → paper x ≡ check_of t
-check_told t a x e h = ap paper (sym e) ∙ h
 
 module _ (t : Sheet) (h : check_of t ≡ accepted) where
   pub operator_ready : (i : ℕ) → i < t.count → Ready (op_at t i)

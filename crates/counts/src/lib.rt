@@ -1,7 +1,7 @@
 // The calm test and the worst counts, on any sheet in memory.
 #![tactic(auto)]
 
-ghost use Rattle.std.specs.Prelude.{◌≡◌, cond, map, ℕ, ◌≤◌, ◌^◌, ltb, leb, eqb, get_or, set, replicate};
+ghost use Rattle.std.specs.Prelude.{◌≡◌, cond, map, ℕ, ◌≤◌, ◌^◌, ltb, leb, eqb, get_or, set};
 ghost use Rattle.base_lists.specs.Lists.{sum};
 ghost use Rattle.sheet_operator.specs.Memory.{PLACES, view, ways, Ready};
 ghost use Rattle.base_bounds.specs.Bounds.{QUEUES, ROOM};
@@ -12,24 +12,13 @@ ghost use Rattle.counts.specs.Calm.{is_calm};
 ghost use Rattle.counts.specs.Worst.{feed_good, deal_worst, dealt, worst_op, worst_from};
 ghost use Rattle.counts.specs.Answers.{Calms, Worsts};
 
-use sheet::{Answer, Sheet};
+use base_refusal::{Reason, Refusal};
+use sheet::Sheet;
 use sheet_operator::{Kind, Operator};
 
 pub const QUEUES: usize = base_bounds::QUEUES as usize;
 
 pub const ROOM: u64 = base_bounds::ROOM as u64;
-
-#[derive(Clone, Copy)]
-pub struct Calmness {
-    pub answer: Answer,
-    pub calm: bool,
-}
-
-#[derive(Clone, Copy)]
-pub struct Counts {
-    pub answer: Answer,
-    pub counts: [u64; QUEUES],
-}
 
 // No operator of an accepted sheet names a variable that one before it names.
 fn names_apart(t: Sheet) -> bool
@@ -50,24 +39,11 @@ fn names_apart(t: Sheet) -> bool
 }
 
 // Whether a sheet is calm, or its own refusal.
-pub fn calm(t: Sheet) -> Calmness
+pub fn calm(t: Sheet) -> Result<bool, Refusal>
     ensures { Calms t result }
 {
-    let a = sheet::check(t);
-    match a {
-        Answer::Done => Calmness {
-            answer: Answer::Done,
-            calm: names_apart(t),
-        },
-        Answer::RefusedAt { number, spot } => Calmness {
-            answer: Answer::RefusedAt { number, spot },
-            calm: false,
-        },
-        Answer::Refused { number } => Calmness {
-            answer: Answer::Refused { number },
-            calm: false,
-        },
-    }
+    sheet::check(t)?;
+    Ok(names_apart(t))
 }
 
 fn count_at(w: [u64; QUEUES], q: u8) -> u64
@@ -209,32 +185,13 @@ fn sheet_counts(t: Sheet, fed: [u64; QUEUES]) -> [u64; QUEUES]
     w
 }
 
-fn no_counts(a: Answer) -> Counts
-    ensures { (result.answer ≡ a) × (result.counts ≡ replicate QUEUES 0) }
-{
-    Counts {
-        answer: a,
-        counts: [0; QUEUES],
-    }
-}
-
 // The worst counts of a sheet for the numbers fed: its own refusal, then 8.
-pub fn worst(t: Sheet, fed: [u64; QUEUES]) -> Counts
+pub fn worst(t: Sheet, fed: [u64; QUEUES]) -> Result<[u64; QUEUES], Refusal>
     ensures { Worsts t fed result }
 {
-    let a = sheet::check(t);
-    match a {
-        Answer::Done => {
-            if !feed_good(t.inputs, fed) {
-                return no_counts(Answer::Refused { number: 8 });
-            }
-            let counts = sheet_counts(t, fed);
-            Counts {
-                answer: Answer::Done,
-                counts,
-            }
-        }
-        Answer::RefusedAt { number, spot } => no_counts(Answer::RefusedAt { number, spot }),
-        Answer::Refused { number } => no_counts(Answer::Refused { number }),
+    sheet::check(t)?;
+    if !feed_good(t.inputs, fed) {
+        return Err(Reason::BadState.into());
     }
+    Ok(sheet_counts(t, fed))
 }

@@ -1,13 +1,13 @@
 // What replay holds between calls: at the start, after a call, and where a call sets one number of it, right or wrong.
 #![tactic(auto)]
 
-ghost use Rattle.std.specs.Prelude.{◌<◌, cond, ◌≡◌};
-ghost use Rattle.sheet.specs.Answer.{paper, is_accepted};
+ghost use Rattle.std.specs.Prelude.{◌<◌, ◌≡◌};
+ghost use Rattle.std.specs.Result.{result_unwrap_or};
 ghost use Rattle.run_machine.specs.Calls.{fresh_state};
 ghost use Rattle.replay_held.specs.Held.{names_place, CountSet, VariableSet, NumberSet};
 
 use run_machine::State;
-use sheet::{Answer, Sheet};
+use sheet::Sheet;
 
 // The sheet that is held at the start: one input and no operator.
 fn first_sheet() -> Sheet {
@@ -43,24 +43,11 @@ pub fn first() -> Holding
     }
 }
 
-pub fn is_done(a: Answer) -> bool
-    ensures { result ≡ is_accepted (paper a) }
-{
-    match a {
-        Answer::Done => true,
-        Answer::RefusedAt { number: _, spot: _ } => false,
-        Answer::Refused { number: _ } => false,
-    }
-}
-
 // The new sheet where the call was done, else the old one.
-pub fn kept(a: Answer, new: Sheet, old: Sheet) -> Sheet
-    ensures { result ≡ cond (is_accepted (paper a)) new old }
+pub fn kept<E: Copy>(answer: Result<Sheet, E>, old: Sheet) -> Sheet
+    ensures { result ≡ result_unwrap_or answer old }
 {
-    if is_done(a) {
-        return new;
-    }
-    old
+    answer.unwrap_or(old)
 }
 
 // What is held between calls, and how many bytes of text wait.

@@ -5,8 +5,8 @@
 ghost use Rattle.std.specs.Prelude.{◌*◌, ◌<◌, ◌≡◌, length};
 ghost use Rattle.base_bounds.specs.Bounds.{QUEUES};
 
-use replay_printer::{put_answer, put_bad, put_byte, put_front, put_next, put_text};
-use sheet::{Answer, Sheet};
+use replay_printer::{put_bad, put_byte, put_front, put_line, put_next, put_refusal, put_text};
+use sheet::Sheet;
 
 // The body of call 5: four bytes for each queue.
 const FED: usize = 4 * counts::QUEUES;
@@ -16,8 +16,8 @@ fn call_bench(body: &[u8], text: &mut [u8], out: &mut [u8], used: usize) -> usiz
     requires { used < length out.old }
     ensures { result < length out.new }
 {
-    let p = bench_report::report(body, &mut *text);
-    put_front(&mut *out, used, &*text, p.size)
+    let size = bench_report::report(body, &mut *text).unwrap_or(0);
+    put_front(&mut *out, used, &*text, size)
 }
 
 // 4
@@ -28,19 +28,11 @@ fn call_calm(body: &[u8], t: Sheet, out: &mut [u8], used: usize) -> usize
     if body.len() != 0 {
         return put_bad(&mut *out, used);
     }
-    let c = counts::calm(t);
-    let a = c.answer;
-    put_calm(&mut *out, used, a, c.calm)
-}
-
-fn put_calm(out: &mut [u8], used: usize, a: Answer, calm: bool) -> usize
-    requires { used < length out.old }
-    ensures { result < length out.new }
-{
-    if calm {
-        return put_answer(&mut *out, used, a, b"calm");
+    match counts::calm(t) {
+        Ok(true) => put_line(&mut *out, used, b"calm"),
+        Ok(false) => put_line(&mut *out, used, b"not calm"),
+        Err(e) => put_refusal(&mut *out, used, e),
     }
-    put_answer(&mut *out, used, a, b"not calm")
 }
 
 // The numbers of a body that has one for each queue.
@@ -64,13 +56,10 @@ fn call_worst(body: &[u8], t: Sheet, out: &mut [u8], used: usize) -> usize
         return put_bad(&mut *out, used);
     }
     let fed = numbers(body);
-    let w = counts::worst(t, fed);
-    let a = w.answer;
-    if !replay_held::is_done(a) {
-        return put_answer(&mut *out, used, a, b"");
+    match counts::worst(t, fed) {
+        Ok(ns) => put_counts(&mut *out, used, ns),
+        Err(e) => put_refusal(&mut *out, used, e),
     }
-    let ns = w.counts;
-    put_counts(&mut *out, used, ns)
 }
 
 fn put_counts(out: &mut [u8], used: usize, ns: [u64; counts::QUEUES]) -> usize

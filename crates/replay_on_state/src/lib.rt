@@ -2,11 +2,13 @@
 #![tactic(auto)]
 
 ghost use Rattle.std.specs.Prelude.{◌+◌, ◌*◌, ◌<◌, ◌≡◌, length};
+ghost use Rattle.std.specs.Result.{result_unwrap_or};
 ghost use Rattle.base_bounds.specs.Bounds.{FIELDS};
 
+use base_refusal::Refusal;
 use replay_held::Stated;
-use replay_printer::{put_answer, put_bad, put_item, put_text};
-use run_machine::{Called, State, TakenItem};
+use replay_printer::{put_bad, put_item, put_line, put_refusal, put_text};
+use run_machine::{State, TakenItem};
 use run_store::Item;
 use sheet::Sheet;
 
@@ -21,14 +23,20 @@ fn bad_state(state: State, out: &mut [u8], used: usize) -> Stated
     Stated { state, used }
 }
 
-fn done_state(f: Called, out: &mut [u8], used: usize) -> Stated
+// A call that may leave another state: the new one where it was done, else the one before.
+fn done_state(answer: Result<State, Refusal>, before: State, out: &mut [u8], used: usize) -> Stated
     requires { used < length out.old }
-    ensures { result.used < length out.new }
+    ensures state { result.state ≡ result_unwrap_or answer before }
+    ensures bound { result.used < length out.new }
 {
-    let a = f.answer;
-    let used = put_answer(&mut *out, used, a, b"done");
-    let state = f.state;
-    Stated { state, used }
+    let used = match answer {
+        Ok(_) => put_line(&mut *out, used, b"done"),
+        Err(e) => put_refusal(&mut *out, used, e),
+    };
+    Stated {
+        state: answer.unwrap_or(before),
+        used,
+    }
 }
 
 // 9
@@ -49,8 +57,8 @@ pub fn call_fresh(
     if store.len() < n {
         return bad_state(state, &mut *out, used);
     }
-    let f = runner::fresh(state, &mut store[..n]);
-    done_state(f, &mut *out, used)
+    let answer = runner::fresh(&mut store[..n]);
+    done_state(answer, state, &mut *out, used)
 }
 
 // The fields behind a body's first byte.
@@ -83,8 +91,8 @@ pub fn call_feed(
         return bad_state(state, &mut *out, used);
     }
     let x = item(body);
-    let f = runner::feed(t, state, &mut *store, body[0], x);
-    done_state(f, &mut *out, used)
+    let answer = runner::feed(t, state, &mut *store, body[0], x);
+    done_state(answer, state, &mut *out, used)
 }
 
 // 11
@@ -102,24 +110,25 @@ pub fn call_take(
     if body.len() != 1 {
         return bad_state(state, &mut *out, used);
     }
-    let k = runner::take(t, state, &mut *store, body[0]);
-    put_taken(k, &mut *out, used)
+    match runner::take(t, state, &mut *store, body[0]) {
+        Ok(taken) => put_taken(taken, &mut *out, used),
+        Err(e) => {
+            let used = put_refusal(&mut *out, used, e);
+            Stated { state, used }
+        }
+    }
 }
 
-fn put_taken(k: TakenItem, out: &mut [u8], used: usize) -> Stated
+fn put_taken(taken: TakenItem, out: &mut [u8], used: usize) -> Stated
     requires { used < length out.old }
     ensures { result.used < length out.new }
 {
-    let a = k.answer;
-    let state = k.state;
-    if !replay_held::is_done(a) {
-        let used = put_answer(&mut *out, used, a, b"");
-        return Stated { state, used };
-    }
     let at = put_text(&mut *out, used, b"item");
-    let x = k.item;
-    let used = put_item(&mut *out, at, x);
-    Stated { state, used }
+    let used = put_item(&mut *out, at, taken.item);
+    Stated {
+        state: taken.state,
+        used,
+    }
 }
 
 // 12
@@ -137,6 +146,6 @@ pub fn call_fire(
     if body.len() != 1 {
         return bad_state(state, &mut *out, used);
     }
-    let f = runner::fire(t, state, &mut *store, body[0]);
-    done_state(f, &mut *out, used)
+    let answer = runner::fire(t, state, &mut *store, body[0]);
+    done_state(answer, state, &mut *out, used)
 }

@@ -3,8 +3,8 @@
 
 ghost use Rattle.std.specs.Prelude.{◌*◌, ◌+◌, ◌<◌, length};
 
+use base_refusal::Refusal;
 use run_store::Item;
-use sheet::Answer;
 
 // Puts one byte behind those that wait.
 pub fn put_byte(out: &mut [u8], used: usize, b: u8) -> usize
@@ -152,21 +152,19 @@ fn hex_by_byte(out: &mut [u8], used: usize, s: &[u8]) -> usize
     at
 }
 
-// The refusal's line, or what a call that is done says.
-pub fn put_answer(out: &mut [u8], used: usize, a: Answer, done: &[u8]) -> usize
+// A refusal's line, with the record where it names one.
+pub fn put_refusal(out: &mut [u8], used: usize, e: Refusal) -> usize
     requires { used < length out.old }
     ensures { result < length out.new }
 {
-    match a {
-        Answer::Done => put_line(&mut *out, used, done),
-        Answer::RefusedAt { number, spot } => {
-            put_refused_at(&mut *out, used, number, b" at record", spot as u64)
-        }
-        Answer::Refused { number } => put_refused(&mut *out, used, number),
+    let number = u8::from(e.reason);
+    match e.spot {
+        Some(spot) => put_refused_at(&mut *out, used, number, b" at record", spot as u64),
+        None => put_refused(&mut *out, used, number),
     }
 }
 
-pub fn put_refused(out: &mut [u8], used: usize, number: u8) -> usize
+fn put_refused(out: &mut [u8], used: usize, number: u8) -> usize
     requires { used < length out.old }
     ensures { result < length out.new }
 {

@@ -3,9 +3,9 @@
 
 ghost use Rattle.std.specs.Prelude.{◌<◌, length};
 
+use base_refusal::Refusal;
 use replay_forms::Sheeted;
 use replay_held::Holding;
-use rewrite_rules::Rewritten;
 use sheet::Sheet;
 
 fn bad_sheet(sheet: Sheet, out: &mut [u8], used: usize) -> Sheeted
@@ -16,13 +16,11 @@ fn bad_sheet(sheet: Sheet, out: &mut [u8], used: usize) -> Sheeted
     Sheeted { sheet, used }
 }
 
-fn done_sheet(r: Rewritten, old: Sheet, out: &mut [u8], used: usize) -> Sheeted
+fn done_sheet(answer: Result<Sheet, Refusal>, old: Sheet, out: &mut [u8], used: usize) -> Sheeted
     requires { used < length out.old }
     ensures { result.used < length out.new }
 {
-    let a = r.answer;
-    let new = r.sheet;
-    replay_forms::changed(a, new, old, b"done", &mut *out, used)
+    replay_forms::changed(answer, old, b"done", &mut *out, used)
 }
 
 // 6

@@ -5,7 +5,7 @@
 ghost use Rattle.std.specs.Prelude.{◌<◌, length};
 
 use replay_held::{Holding, Set, Stated};
-use replay_printer::{put_answer, put_bad, put_byte, put_done, put_named};
+use replay_printer::{put_bad, put_byte, put_done, put_named, put_refusal};
 use run_machine::{ReadySet, RunEnd, State};
 use sheet::Sheet;
 
@@ -21,20 +21,25 @@ fn call_run(
     requires { used < length out.old }
     ensures { result.used < length out.new }
 {
-    let n = runner::run(t, state, &mut *store, body);
-    let used = put_ran(n, &mut *out, used);
-    let state = n.state;
-    Stated { state, used }
+    match runner::run(t, state, &mut *store, body) {
+        Ok(n) => {
+            let used = put_ran(n, &mut *out, used);
+            Stated {
+                state: n.state,
+                used,
+            }
+        }
+        Err(e) => {
+            let used = put_refusal(&mut *out, used, e);
+            Stated { state, used }
+        }
+    }
 }
 
 fn put_ran(n: RunEnd, out: &mut [u8], used: usize) -> usize
     requires { used < length out.old }
     ensures { result < length out.new }
 {
-    let a = n.answer;
-    if !replay_held::is_done(a) {
-        return put_answer(&mut *out, used, a, b"");
-    }
     let at = put_named(&mut *out, used, b"fired", n.fired as u64);
     let at = put_named(&mut *out, at, b" skipped", n.skipped as u64);
     put_byte(&mut *out, at, b'\n')
@@ -55,18 +60,16 @@ pub fn call_ready(
     if body.len() != 0 {
         return put_bad(&mut *out, used);
     }
-    let r = runner::ready(t, state, store);
-    put_ready(r, &mut *out, used)
+    match runner::ready(t, state, store) {
+        Ok(r) => put_ready(r, &mut *out, used),
+        Err(e) => put_refusal(&mut *out, used, e),
+    }
 }
 
 fn put_ready(r: ReadySet, out: &mut [u8], used: usize) -> usize
     requires { used < length out.old }
     ensures { result < length out.new }
 {
-    let a = r.answer;
-    if !replay_held::is_done(a) {
-        return put_answer(&mut *out, used, a, b"");
-    }
     let at = put_named(&mut *out, used, b"ready", r.set as u64);
     let at = put_named(&mut *out, at, b" count", r.count as u64);
     let at = put_named(&mut *out, at, b" lowest", r.lowest as u64);

@@ -12,7 +12,6 @@ use lib.Seq.{length-take-le, get_or-take}
 use borrow.Author.Tests.{lt-ltb, le-ltb}
 use Rattle.base_lists.specs.Lists.{build, pad}
 use Rattle.base_lists.proofs.Build.{order, build_length, build_ext, build_all, build_map}
-use Rattle.base_lists.proofs.Pad.{pad_full}
 use Rattle.sheet_step.specs.declared.Step.{Step}
 use Rattle.sheet_operator.specs.Op.{Op, line, latest, double, deal, gather}
 use Rattle.sheet_operator.specs.Memory.{PLACES, memory}
@@ -22,23 +21,12 @@ use Rattle.sheet.specs.Sheet.{missing}
 use Rattle.rewrite_rules.specs.Rewrite.{fallen, lowered}
 use Rattle.rewrite_fuse.specs.Working.{without, skip, lowered_in}
 
--- the code's two returns, and its loop's end
-pub falls : (m q : ℕ) → m < q → q - 1 ≡ fallen m q
-falls m q h = sym (ap (λ (b : Bool). cond b (q - 1) q) (lt-ltb m q h))
-
-pub stays : (m q : ℕ) → q ≤ m → q ≡ fallen m q
-stays m q h = sym (ap (λ (b : Bool). cond b (q - 1) q) (le-ltb m q h))
-
-pub skip_below : (j k : ℕ) → k < j → k ≡ skip j k
+-- the place where element k of what is left stood
+skip_below : (j k : ℕ) → k < j → k ≡ skip j k
 skip_below j k h = sym (ap (λ (b : Bool). cond b k (k + 1)) (lt-ltb k j h))
 
-pub skip_past : (j k : ℕ) → j ≤ k → k + 1 ≡ skip j k
+skip_past : (j k : ℕ) → j ≤ k → k + 1 ≡ skip j k
 skip_past j k h = sym (ap (λ (b : Bool). cond b k (k + 1)) (le-ltb k j h))
-
-pub all_fallen_end : (m : ℕ) (l : List ℕ) → length l ≡ PLACES → pad PLACES 0 (build PLACES (λ (k : ℕ). fallen m (get_or l k 0))) ≡ map (fallen m) l
-all_fallen_end m l e =
-    pad_full PLACES 0 (build PLACES (λ (k : ℕ). fallen m (get_or l k 0))) (build_length PLACES (λ (k : ℕ). fallen m (get_or l k 0)))
-    ∙ sym (build_map PLACES (fallen m) (λ (k : ℕ). get_or l k 0)) ∙ ap (map (fallen m)) (build_all l 0 PLACES e)
 
 -- 0 stays
 fallen_zero : (m : ℕ) → fallen m 0 ≡ 0
@@ -53,12 +41,6 @@ lowered_eq : (k : Kind) (v f : ℕ) (ss : List Step) {n n' : ℕ} {ps ps' qs qs'
     ◌≡◌ {A = Operator} (record { kind = k; count = n; variable = v; field = f; ins = ps; outs = qs; steps = ss })
     (record { kind = k; count = n'; variable = v; field = f; ins = ps'; outs = qs'; steps = ss })
 lowered_eq k v f ss a b c = rw (a, b, c)
-
-pub lowered_places : (m : ℕ) (o : Operator) (ps qs : List ℕ) → ps ≡ map (fallen m) o.ins → qs ≡ map (fallen m) o.outs →
-    ◌≡◌ {A = Operator}
-    (record { kind = o.kind; count = o.count; variable = o.variable; field = o.field; ins = ps; outs = qs; steps = o.steps })
-    (lowered_in m o)
-lowered_places m o ps qs e d = lowered_eq o.kind o.variable o.field o.steps refl e d
 
 -- an operator's places without the queue are the places of the operator without it
 pub lowered_memory : (m : ℕ) (o : Op) → lowered_in m (memory o) ≡ memory (lowered m o)
@@ -116,7 +98,7 @@ map_without {A} {B} f l j d h =
     ∙ sym (without_build (map f l) j n (f d) (omega arith) (omega arith))
 
 -- the place that element k of what is left stood at is one of the list's
-pub skip_within : (j k n : ℕ) → k < n - 1 → skip j k < n
+skip_within : (j k n : ℕ) → k < n - 1 → skip j k < n
 skip_within j k n h =
     ⊎_elim (λ (l : k < j). omega (arith, skip_below j k l)) (λ (l : j ≤ k). omega (arith, skip_past j k l)) (order k j)
 

@@ -8,6 +8,9 @@ use native.Mathlib.Omega.{arith}
 use lib.Dec.{leb}
 use lib.ListN.{length, get_or, set, take, length-set, length-map}
 use borrow.Author.Tests.{le-leb, lt-leb}
+use Rattle.std.specs.Prelude.{Err}
+use Rattle.base_refusal.specs.declared.Reason.{Reason}
+use Rattle.base_refusal.specs.Refusal.{number_of}
 use Rattle.base_lists.specs.Lists.{pad}
 use Rattle.base_lists.proofs.Pad.{pad_take}
 use Rattle.sheet_operator.specs.Op.{Op, line, double}
@@ -36,9 +39,9 @@ module _ (t : Sheet) (i : ℕ) where
   abbrev fits : Bool → Remade
   fits b = cond b (rewritten (fused (view_sheet t) i (next_of (view_sheet t) i))) (refuse 16)
 
-  pub fuse_refused : (n j : ℕ) → Follows t i n j → (n ≡ 0 → ⊥) → fuse (view_sheet t) i ≡ refuse n
+  pub fuse_refused : (k : Reason) → Follows t i (Err k) → fuse (view_sheet t) i ≡ refuse (number_of k)
   unfolding fuse
-  fuse_refused n j f z = not_two_lines t i n j f z (fits (leb steps PLACES))
+  fuse_refused k f = not_two_lines t i k f (fits (leb steps PLACES))
 
   module _ (j : ℕ) (pair : Pair t i j) where
     fuse_by : (b : Bool) → leb steps PLACES ≡ b → fuse (view_sheet t) i ≡ fits b

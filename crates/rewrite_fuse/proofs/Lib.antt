@@ -1,3 +1,2 @@
-pub mod Joining
 pub mod Falling
 pub mod Fusing

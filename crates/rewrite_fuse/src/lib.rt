@@ -15,7 +15,7 @@ ghost use Rattle.rewrite_rules.specs.Answers.{answering, Rewrites};
 ghost use Rattle.rewrite_rules.specs.Working.{TwoLines};
 ghost use Rattle.rewrite_fuse.specs.Working.{without, skip, lowered_in};
 
-use rewrite_rules::Rewritten;
+use base_refusal::{Reason, Refusal};
 use sheet::Sheet;
 use sheet_operator::Operator;
 use sheet_step::Step;
@@ -24,10 +24,7 @@ use sheet_step::Step;
 fn fallen(m: u8, q: u8) -> u8
     ensures { result ≡ fallen m q }
 {
-    if m < q {
-        return q - 1;
-    }
-    q
+    if m < q { q - 1 } else { q }
 }
 
 // The same of all places: 0, which an unused place holds, stays.
@@ -36,8 +33,7 @@ fn all_fallen(m: u8, qs: [u8; sheet_operator::PLACES]) -> [u8; sheet_operator::P
 {
     let mut r = [0u8; sheet_operator::PLACES];
     for k in 0..sheet_operator::PLACES {
-        let q = qs[k];
-        r[k] = fallen(m, q);
+        r[k] = fallen(m, qs[k]);
     }
     r
 }
@@ -45,20 +41,10 @@ fn all_fallen(m: u8, qs: [u8; sheet_operator::PLACES]) -> [u8; sheet_operator::P
 fn lowered(m: u8, o: Operator) -> Operator
     ensures { result ≡ lowered_in m o }
 {
-    let kind = o.kind;
-    let ps = o.ins;
-    let qs = o.outs;
-    let steps = o.steps;
-    let ins = all_fallen(m, ps);
-    let outs = all_fallen(m, qs);
     Operator {
-        kind,
-        count: o.count,
-        variable: o.variable,
-        field: o.field,
-        ins,
-        outs,
-        steps,
+        ins: all_fallen(m, o.ins),
+        outs: all_fallen(m, o.outs),
+        ..o
     }
 }
 
@@ -74,8 +60,7 @@ fn joined_steps(
 {
     let mut r = ss;
     for k in 0..m {
-        let at = n + k;
-        r[at] = ts[k];
+        r[n + k] = ts[k];
     }
     r
 }
@@ -85,20 +70,12 @@ fn joined(o: Operator, p: Operator) -> Operator
     requires { TwoLines o p × (o.count + p.count ≤ PLACES) }
     ensures { result ≡ memory (line (in_of (view o)) (out_of (view p)) (steps_of (view o) ++ steps_of (view p))) }
 {
-    let kind = o.kind;
-    let ss = o.steps;
-    let ts = p.steps;
-    let steps = joined_steps(ss, o.count as usize, ts, p.count as usize);
-    let ins = o.ins;
     let outs = p.outs;
     Operator {
-        kind,
         count: o.count + p.count,
-        variable: o.variable,
-        field: o.field,
-        ins,
         outs,
-        steps,
+        steps: joined_steps(o.steps, o.count as usize, p.steps, p.count as usize),
+        ..o
     }
 }
 
@@ -107,10 +84,7 @@ fn skip(j: usize, k: usize) -> usize
     requires { k < OPERATORS }
     ensures { result ≡ skip j k }
 {
-    if k < j {
-        return k;
-    }
-    k + 1
+    if k < j { k } else { k + 1 }
 }
 
 // The first n operators without operator j, and without queue m.
@@ -124,42 +98,30 @@ fn closed_up(
     ensures { result ≡ pad OPERATORS no_operator (map (lowered_in m) (without j (take n operators))) }
 {
     let mut r = [sheet_decode::NO_OPERATOR; sheet::OPERATORS];
-    let left = n - 1;
-    for k in 0..left {
-        let at = skip(j, k);
-        let o = operators[at];
-        r[k] = lowered(m, o);
+    for k in 0..n - 1 {
+        r[k] = lowered(m, operators[skip(j, k)]);
     }
     r
 }
 
 // Fuses line a of a calm sheet with the line that reads its out queue.
-pub fn fuse_calm(t: Sheet, a: u8) -> Rewritten
+pub fn fuse_calm(t: Sheet, a: u8) -> Result<Sheet, Refusal>
     requires { check_of t ≡ accepted }
-    ensures { Rewrites (answering (fuse (view_sheet t) a)) result.answer result.sheet }
+    ensures { Rewrites (answering (fuse (view_sheet t) a)) result }
 {
-    let n = rewrite_rules::line_after(t, a);
-    if n.number != 0 {
-        return rewrite_rules::refused(n.number);
-    }
     let i = a as usize;
-    let j = n.place;
+    let j = rewrite_rules::line_after(t, a)?;
     let o = t.operators[i];
     let p = t.operators[j];
-    let steps = o.count + p.count;
-    if (sheet_operator::PLACES as u8) < steps {
-        return rewrite_rules::refused(16);
+    if (sheet_operator::PLACES as u8) < o.count + p.count {
+        return Err(Reason::TooLarge.into());
     }
     let mut operators = t.operators;
     operators[i] = joined(o, p);
-    let m = o.outs[0];
-    let closed = closed_up(operators, t.count as usize, j, m);
-    let sheet = Sheet {
-        inputs: t.inputs,
+    Ok(Sheet {
         queues: t.queues - 1,
-        variables: t.variables,
         count: t.count - 1,
-        operators: closed,
-    };
-    rewrite_rules::done(sheet)
+        operators: closed_up(operators, t.count as usize, j, o.outs[0]),
+        ..t
+    })
 }

@@ -1,16 +1,16 @@
--- Two lines that exchange their steps: the four tests, the refusals in order, and the sheet in memory that comes of it.
+-- Two lines that exchange their steps: the refusals in order, and the sheet in memory that comes of it.
 -- Assumes nothing.
 use mathlib.Core.Path.{◌≡◌, refl, sym, ap, ap₂, ◌∙◌}
-use mathlib.Core.Bool.{Bool, true, false, cond, ◌&&◌}
-use mathlib.Core.List.{List, ◌++◌}
+use mathlib.Core.Bool.{Bool, true, false, cond}
+use mathlib.Core.List.{List}
 use Prim.Native.Nat.{ℕ}
 use native.Mathlib.Omega.{arith}
 use lib.ListN.{length, set, length-set}
-use Rattle.base_lists.specs.Lists.{all}
-use Rattle.base_lists.proofs.Tests.{all_append}
-use Rattle.sheet_step.specs.declared.Step.{Step}
+use Rattle.std.specs.Prelude.{Err}
+use Rattle.base_refusal.specs.declared.Reason.{Reason}
+use Rattle.base_refusal.specs.Refusal.{number_of}
 use Rattle.sheet_operator.specs.Op.{Op, line}
-use Rattle.sheet_operator.specs.Memory.{view, memory, steps_in}
+use Rattle.sheet_operator.specs.Memory.{view, memory}
 use Rattle.sheet_operator.specs.declared.Operator.{Operator}
 use Rattle.sheet.specs.declared.Sheet.{Sheet}
 use Rattle.sheet.specs.Answer.{accepted}
@@ -19,49 +19,11 @@ use Rattle.sheet.specs.Check.{check_of}
 use Rattle.sheet.proofs.Accepted.{ranges_of_accepted}
 use Rattle.sheet.proofs.Placed.{ops_many, ops_at, places}
 use Rattle.sheet.proofs.InMemory.{sheet_eq, operators_back}
-use Rattle.rewrite_rules.specs.Rewrite.{Remade, refuse, rewritten, is_line, in_of, out_of, steps_of, at, next_of, touches_none, leaves, exchanged, reorder}
+use Rattle.rewrite_rules.specs.Rewrite.{Remade, refuse, rewritten, in_of, out_of, steps_of, at, next_of, exchanged, reorder}
 use Rattle.rewrite_rules.specs.Working.{Pair, Follows}
 use Rattle.rewrite_reorder.specs.Working.{may_exchange}
-use Rattle.rewrite_rules.proofs.Lines.{line_steps, set_places}
+use Rattle.rewrite_rules.proofs.Lines.{set_places}
 use Rattle.rewrite_rules.proofs.Pairs.{not_two_lines, two_lines_there}
-
--- the tests of `apart`, one law for each return
-four_first : (a b c d : Bool) → a ≡ false → false ≡ ((a && b) && (c && d))
-four_first a b c d e = rw e
-
-four_second : (a b c d : Bool) → a ≡ true → b ≡ false → false ≡ ((a && b) && (c && d))
-four_second a b c d e f = rw (e, f)
-
-four_third : (a b c d : Bool) → a ≡ true → b ≡ true → c ≡ false → false ≡ ((a && b) && (c && d))
-four_third a b c d e f g = rw (e, f, g)
-
-four_fourth : (a b c d : Bool) → a ≡ true → b ≡ true → c ≡ true → d ≡ ((a && b) && (c && d))
-four_fourth a b c d e f g = rw (e, f, g)
-
-module _ (o p : Operator) (h : is_line (view o) ≡ true) (k : is_line (view p) ≡ true) where
-  abbrev ss : List Step
-  ss = steps_in o.count o.steps
-
-  abbrev ts : List Step
-  ts = steps_in p.count p.steps
-
-  four : ((all touches_none ss && all touches_none ts) && (leaves ss ts && leaves ts ss)) ≡ may_exchange (view o) (view p)
-  four =
-      sym
-      (ap₂ (λ (x y : List Step). all touches_none (x ++ y) && (leaves x y && leaves y x)) (line_steps o h) (line_steps p k)
-      ∙ ap (λ (b : Bool). b && (leaves ss ts && leaves ts ss)) (all_append touches_none ss ts))
-
-  pub apart_first : all touches_none ss ≡ false → false ≡ may_exchange (view o) (view p)
-  apart_first e = four_first (all touches_none ss) (all touches_none ts) (leaves ss ts) (leaves ts ss) e ∙ four
-
-  pub apart_second : all touches_none ss ≡ true → all touches_none ts ≡ false → false ≡ may_exchange (view o) (view p)
-  apart_second e f = four_second (all touches_none ss) (all touches_none ts) (leaves ss ts) (leaves ts ss) e f ∙ four
-
-  pub apart_third : all touches_none ss ≡ true → all touches_none ts ≡ true → leaves ss ts ≡ false → false ≡ may_exchange (view o) (view p)
-  apart_third e f g = four_third (all touches_none ss) (all touches_none ts) (leaves ss ts) (leaves ts ss) e f g ∙ four
-
-  pub apart_fourth : all touches_none ss ≡ true → all touches_none ts ≡ true → leaves ss ts ≡ true → leaves ts ss ≡ may_exchange (view o) (view p)
-  apart_fourth e f g = four_fourth (all touches_none ss) (all touches_none ts) (leaves ss ts) (leaves ts ss) e f g ∙ four
 
 -- the refusals of reorder
 module _ (t : Sheet) (i : ℕ) where
@@ -71,9 +33,9 @@ module _ (t : Sheet) (i : ℕ) where
   abbrev allowed : Bool → Remade
   allowed b = cond b (rewritten (exchanged (view_sheet t) i (next_of (view_sheet t) i))) (refuse 17)
 
-  pub reorder_refused : (n j : ℕ) → Follows t i n j → (n ≡ 0 → ⊥) → reorder (view_sheet t) i ≡ refuse n
+  pub reorder_refused : (k : Reason) → Follows t i (Err k) → reorder (view_sheet t) i ≡ refuse (number_of k)
   unfolding reorder
-  reorder_refused n j f z = not_two_lines t i n j f z (allowed both)
+  reorder_refused k f = not_two_lines t i k f (allowed both)
 
   module _ (j : ℕ) (pair : Pair t i j) where
     reorder_by : (b : Bool) → may_exchange (view (op_at t i)) (view (op_at t j)) ≡ b → reorder (view_sheet t) i ≡ allowed b

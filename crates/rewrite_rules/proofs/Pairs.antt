@@ -3,13 +3,18 @@
 use mathlib.Core.Path.{◌≡◌, refl, sym, ap, ◌∙◌}
 use mathlib.Core.Bool.{Bool, true, false, cond, ◌&&◌, ◌||◌}
 use mathlib.Core.List.{List, [], ◌∷◌}
+use mathlib.Core.Logic.{⊎_elim}
 use Prim.Native.Nat.{ℕ, suc, ◌+◌, ◌<◌, ◌≤◌}
 use native.Mathlib.Omega.{arith}
 use lib.Dec.{ltb}
 use lib.ListN.{length, get_or}
 use borrow.Author.Tests.{lt-ltb, le-ltb}
+use Rattle.std.specs.Prelude.{Ok, Err}
 use Rattle.base_lists.specs.Lists.{member}
-use Rattle.base_lists.proofs.Build.{never}
+use Rattle.base_lists.proofs.Build.{never, order}
+use Rattle.base_refusal.specs.declared.Reason.{Reason}
+use Rattle.base_refusal.specs.declared.Reason.TheVariants.{NoOperator, NoLine}
+use Rattle.base_refusal.specs.Refusal.{number_of}
 use Rattle.sheet_operator.specs.Op.{Op, reads}
 use Rattle.sheet_operator.specs.Memory.{PLACES, view}
 use Rattle.base_bounds.specs.Bounds.{OPERATORS}
@@ -17,12 +22,13 @@ use Rattle.sheet.specs.declared.Sheet.{Sheet}
 use Rattle.sheet.specs.Answer.{accepted}
 use Rattle.sheet.specs.Sheet.{op_at, view_sheet, HeldSheet}
 use Rattle.sheet.specs.Check.{check_of}
+use Rattle.sheet.proofs.AnswerLaws.{some_number, none_apart}
 use Rattle.sheet.proofs.Accepted.{ranges_of_accepted}
 use Rattle.sheet.proofs.Placed.{ops_many, ops_at}
 use Rattle.sheet.proofs.InMemory.{operator_back}
-use Rattle.run_machine.specs.Readers.{reader_from, reader_of}
+use Rattle.run_machine.specs.Readers.{reader_from, reader_at, ReaderCall, reader_of, ReaderAnswers}
 use Rattle.run_machine.proofs.AbleOf.{able_of_accepted}
-use Rattle.run_machine.proofs.Asking.{few_operators, reader_place}
+use Rattle.run_machine.proofs.Asking.{few_operators, reader_asked, reader_place}
 use Rattle.run_machine.proofs.ReaderLaws.{is_read, reader_found}
 use Rattle.rewrite_rules.specs.Rewrite.{Remade, refuse, is_line, out_of, at, next_of, to_line, if_two_lines}
 use Rattle.rewrite_rules.specs.Working.{pair_number, Pair, Follows, TwoLines}
@@ -48,10 +54,15 @@ module _ (t : Sheet) (i : ℕ) where
   number_by : (p q : Bool) → ltb i (length (view_sheet t).ops) ≡ p → two ≡ q → pair_number (view_sheet t) i ≡ cond p (cond q 0 15) 14
   number_by p q e f = rw (e, f)
 
-  pub follows_past : t.count ≤ i → Follows t i 14 OPERATORS
+  pub follows_past : t.count ≤ i → Follows t i (Err NoOperator)
   follows_past l =
       let e = le-ltb i (length (view_sheet t).ops) (omega (arith, ops_many t)) in
-      record { numbered = sym (number_by false two e refl); found = λ z. absurd (omega arith); none = λ z. refl }
+      record { numbered = sym (number_by false two e refl); found = tt }
+
+-- a reader that is answered has a place
+answered_below : (i : ℕ) → accepted ≡ (reader_at i).answer → i < OPERATORS
+answered_below i e =
+    ⊎_elim (λ (l : i < OPERATORS). l) (λ (l : OPERATORS ≤ i). absurd (none_apart 9 (rw (le-ltb i OPERATORS l) at e))) (order i OPERATORS)
 
 module _ (t : Sheet) (h : check_of t ≡ accepted) where
   pub place_below : (i : ℕ) → i < t.count → i < OPERATORS
@@ -75,32 +86,41 @@ module _ (t : Sheet) (h : check_of t ≡ accepted) where
     first_line : (b : Bool) → is_line (view (op_at t i)) ≡ b → is_line (at (view_sheet t) i) ≡ b
     first_line b e = ap is_line (ops_at t i l) ∙ e
 
-    alone : two t i ≡ false → Follows t i 15 OPERATORS
-    alone e =
-        record { numbered = sym (number_by t i true false within e); found = λ z. absurd (omega arith); none = λ z. refl }
+    alone : two t i ≡ false → Follows t i (Err NoLine)
+    alone e = record { numbered = sym (number_by t i true false within e); found = tt }
 
-    pub follows_no_line : is_line (view (op_at t i)) ≡ false → Follows t i 15 OPERATORS
+    pub follows_no_line : is_line (view (op_at t i)) ≡ false → Follows t i (Err NoLine)
     follows_no_line e = alone (ap (λ (b : Bool). b && to_line (view_sheet t) i) (first_line false e))
 
-    -- j is the place that the runner answers of the line's out queue
-    module _ (e : is_line (view (op_at t i)) ≡ true) (j : ℕ) (asked : j ≡ (reader_of t (get_or (op_at t i).outs 0 0)).place) where
-      next : j ≡ next_of (view_sheet t) i
-      next =
-          asked ∙ reader_place t h (get_or (op_at t i).outs 0 0)
+    -- of the line's out queue the runner is asked
+    module _ (e : is_line (view (op_at t i)) ≡ true) where
+      asked : (j : ℕ) → j ≡ (reader_of t (get_or (op_at t i).outs 0 0)).place → j ≡ next_of (view_sheet t) i
+      asked j d =
+          d ∙ reader_place t h (get_or (op_at t i).outs 0 0)
           ∙ ap (reader_from (view_sheet t).ops 0) (sym (ap out_of (ops_at t i l) ∙ line_out (op_at t i) e))
 
       by_next : (b : Bool) → to_line (view_sheet t) i ≡ b → two t i ≡ b
       by_next b d = ap (λ (x : Bool). x && to_line (view_sheet t) i) (first_line true e) ∙ d
 
-      pub follows_unread : OPERATORS ≤ j → Follows t i 15 OPERATORS
-      follows_unread u =
+      pub follows_unread : OPERATORS ≡ (reader_of t (get_or (op_at t i).outs 0 0)).place → Follows t i (Err NoLine)
+      follows_unread d =
           let none : ltb (next_of (view_sheet t) i) (length (view_sheet t).ops) ≡ false =
-          le-ltb (next_of (view_sheet t) i) (length (view_sheet t).ops) (omega (arith, few_operators t h, next)) in
+          le-ltb (next_of (view_sheet t) i) (length (view_sheet t).ops) (omega (arith, few_operators t h, asked OPERATORS d)) in
           alone (by_next false (ap (λ (b : Bool). b && is_line (at (view_sheet t) (next_of (view_sheet t) i))) none))
 
-      module _ (u : j < OPERATORS) where
+      -- j is the place that the runner answers
+      module _ (j : ℕ) (a : ReaderAnswers (reader_of t (get_or (op_at t i).outs 0 0)) (Ok j)) where
+        next : j ≡ next_of (view_sheet t) i
+        next = asked j a.placed
+
+        pub found_below : j < OPERATORS
+        found_below =
+            let q = get_or (op_at t i).outs 0 0 in
+            let k = answered_below (reader_from (view_sheet t).ops 0 q) (a.answered ∙ ap (λ (c : ReaderCall). c.answer) (reader_asked t h q)) in
+            omega (arith, a.placed ∙ reader_place t h q)
+
         next_below : j < t.count
-        next_below = omega (arith, next, found_within (out_of (at (view_sheet t) i)) (omega (arith, next)))
+        next_below = omega (arith, next, found_within (out_of (at (view_sheet t) i)) (omega (arith, next, found_below)))
 
         second_line : (b : Bool) → is_line (view (op_at t j)) ≡ b → to_line (view_sheet t) i ≡ b
         second_line b d =
@@ -108,20 +128,19 @@ module _ (t : Sheet) (h : check_of t ≡ accepted) where
             ∙ ap (λ (x : Bool). x && is_line (at (view_sheet t) j)) (lt-ltb j (length (view_sheet t).ops) (omega (arith, next_below, ops_many t)))
             ∙ ap is_line (ops_at t j next_below) ∙ d
 
-        pub follows_other : is_line (view (op_at t j)) ≡ false → Follows t i 15 OPERATORS
+        pub follows_other : is_line (view (op_at t j)) ≡ false → Follows t i (Err NoLine)
         follows_other d = alone (by_next false (second_line false d))
 
-        pub follows_found : is_line (view (op_at t j)) ≡ true → Follows t i 0 j
+        pub follows_found : is_line (view (op_at t j)) ≡ true → Follows t i (Ok j)
         follows_found d =
             let both = by_next true (second_line true d) in
             record {
               numbered = sym (number_by t i true true within both);
-              none = λ z. absurd (z refl);
-              found = λ z.
+              found =
                   record {
                     here = l;
                     below = next_below;
-                    within = (place_below i l, u);
+                    within = (place_below i l, found_below);
                     test = both;
                     next = next;
                     first = e;
@@ -137,8 +156,10 @@ refuses_by true true n r e h = absurd (h e)
 refuses_by true false n r e h = ap refuse (sym e)
 refuses_by false q n r e h = ap refuse (sym e)
 
-pub not_two_lines : (t : Sheet) (i n j : ℕ) → Follows t i n j → (n ≡ 0 → ⊥) → (r : Remade) → if_two_lines (view_sheet t) i r ≡ refuse n
-not_two_lines t i n j f z r = refuses_by (ltb i (length (view_sheet t).ops)) (two t i) n r f.numbered z
+pub not_two_lines : (t : Sheet) (i : ℕ) (reason : Reason) → Follows t i (Err reason) → (r : Remade) →
+    if_two_lines (view_sheet t) i r ≡ refuse (number_of reason)
+not_two_lines t i reason f r =
+    refuses_by (ltb i (length (view_sheet t).ops)) (two t i) (number_of reason) r f.numbered (λ z. absurd (omega (arith, some_number reason)))
 
 module _ (t : Sheet) (i j : ℕ) (pair : Pair t i j) where
   pub two_lines_there : (r : Remade) → if_two_lines (view_sheet t) i r ≡ r

@@ -1,5 +1,7 @@
 -- What the rewritings' inner functions ask and answer of a line and the line after it.
-use Rattle.std.specs.Prelude.{ℕ, ◌<◌, ◌≡◌, true, cond, ◌&&◌, ltb, length}
+use Rattle.std.specs.Prelude.{ℕ, ◌<◌, ◌≡◌, true, cond, ◌&&◌, ltb, length, Result, IfOk}
+use Rattle.base_refusal.specs.declared.Reason.{Reason}
+use Rattle.base_refusal.specs.Refusal.{number_or_zero}
 use Rattle.sheet_operator.specs.Op.{Abstract}
 use Rattle.sheet_operator.specs.Memory.{view, memory}
 use Rattle.sheet_operator.specs.declared.Operator.{Operator}
@@ -22,11 +24,10 @@ pub record Pair (t : Sheet) (i j : ℕ) : Type 0 where
   pub first : is_line (view (op_at t i)) ≡ true
   pub second : is_line (view (op_at t j)) ≡ true
 
--- the number is that one; the place is the second line's where there is none, and OPERATORS where there is one
-pub record Follows (t : Sheet) (i number place : ℕ) : Type 0 where
-  pub numbered : number ≡ pair_number (view_sheet t) i
-  pub found : number ≡ 0 → Pair t i place
-  pub none : (number ≡ 0 → ⊥) → place ≡ OPERATORS
+-- the number is that one; the place is the second line's where there is none
+pub record Follows (t : Sheet) (i : ℕ) (r : Result ℕ Reason) : Type 0 where
+  pub numbered : number_or_zero r ≡ pair_number (view_sheet t) i
+  pub found : IfOk r (λ (j : ℕ). Pair t i j)
 
 -- two lines, each in the places of the operator that it stands for
 pub record TwoLines (o p : Operator) : Type 0 where

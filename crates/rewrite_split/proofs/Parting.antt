@@ -14,10 +14,8 @@ use Rattle.base_lists.proofs.Build.{order, up_to, build_length, build_ext, build
 use Rattle.base_lists.proofs.Pad.{pad_length, pad_get_or, pad_as_build}
 use Rattle.base_lists.proofs.Places.{get_d_any}
 use Rattle.base_lists.proofs.Insert.{inserted, map_inserted, length_inserted, inserted_before, inserted_in, inserted_past, built_at, last_at}
-use Rattle.sheet_step.specs.declared.Step.{Step}
 use Rattle.sheet_operator.specs.Op.{Op, line, deal, gather}
 use Rattle.sheet_operator.specs.Memory.{PLACES, steps_in, view, memory, no_operator, Held}
-use Rattle.sheet_operator.specs.declared.Kind.TheVariants.{Line}
 use Rattle.sheet_operator.specs.declared.Operator.{Operator}
 use Rattle.sheet_operator.proofs.ViewLaws.{memory_view}
 use Rattle.base_bounds.specs.Bounds.{OPERATORS}
@@ -36,16 +34,12 @@ line_back : (o : Operator) → Held o → LineIn o →
 line_back o h l = ap memory (sym (line_view o l.line)) ∙ memory_view o h l.number
 
 -- another line with the same steps differs in its queues alone
-abbrev line_with : ℕ → List Step → ℕ → ℕ → Operator
-line_with n ss p q =
-    record { kind = Line; count = n; variable = 0; field = 0; ins = pad PLACES 0 (p ∷ []); outs = pad PLACES 0 (q ∷ []); steps = ss }
+abbrev line_with : ℕ → ℕ → Operator → Operator
+line_with p q o =
+    record { kind = o.kind; count = o.count; variable = o.variable; field = o.field; ins = pad PLACES 0 (p ∷ []); outs = pad PLACES 0 (q ∷ []); steps = o.steps }
 
-pub line_copied : (o : Operator) (p q : ℕ) → Held o → LineIn o →
-    line_with o.count o.steps p q ≡ memory (line p q (steps_in o.count o.steps))
-line_copied o p q h l =
-    let b = sym (line_back o h l) in
-    ap (λ (n : ℕ). line_with n o.steps p q) (ap (λ (x : Operator). x.count) b)
-    ∙ ap (λ (ss : List Step). line_with (length (steps_in o.count o.steps)) ss p q) (ap (λ (x : Operator). x.steps) b)
+pub line_copied : (o : Operator) (p q : ℕ) → Held o → LineIn o → line_with p q o ≡ memory (line p q (steps_in o.count o.steps))
+line_copied o p q h l = ap (line_with p q) (sym (line_back o h l))
 
 module _ (o : Operator) (q v k : ℕ) where
   abbrev made : List Operator
@@ -119,13 +113,7 @@ module _ (t : Sheet) (i k : ℕ) (s : Splits t i k) where
       (memory_sheet (parted (view_sheet t) i k))
   parted_made n os e f = sheet_eq refl refl refl (e ∙ sym length_newer) f
 
-  -- what a place from i on is made of: one that is there, and the line itself where a piece comes
-  pub source_in : (m u : ℕ) → i ≤ m → m < OPERATORS → u ≡ cond (leb (m - i) (k + 1)) i (m - (k + 1)) → u < OPERATORS
-  source_in m u a b e =
-      ⊎_elim (λ (l : m - i < k + 2). let g : u ≡ i = e ∙ simp (le-leb (m - i) (k + 1) (omega arith)) in omega arith)
-      (λ (l : k + 2 ≤ m - i). let g : u ≡ m - (k + 1) = e ∙ simp (lt-leb (m - i) (k + 1) (omega arith)) in omega arith)
-      (order (m - i) (k + 2))
-
+  -- a place from i on where a piece comes is made of the line itself
   pub source_line : (m u : ℕ) → u ≡ cond (leb (m - i) (k + 1)) i (m - (k + 1)) → m - i ≤ k + 1 → LineIn (op_at t u)
   source_line m u e l =
       let g : u ≡ i = e ∙ simp (le-leb (m - i) (k + 1) l) in

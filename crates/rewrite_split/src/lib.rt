@@ -13,7 +13,7 @@ ghost use Rattle.rewrite_rules.specs.Rewrite.{parted, touches_none, writes_some,
 ghost use Rattle.rewrite_rules.specs.Answers.{Rewrites, answering};
 ghost use Rattle.rewrite_split.specs.Working.{LineIn, SplitRoom, Splits};
 
-use rewrite_rules::Rewritten;
+use base_refusal::{Reason, Refusal};
 use sheet::Sheet;
 use sheet_operator::{Kind, Operator};
 use sheet_step::Step;
@@ -37,14 +37,13 @@ fn dealing(v: u8, p: u8, q: u8, k: u8) -> Operator
     requires { (k ≤ PLACES) × (q + k ≤ 255) }
     ensures { result ≡ memory (deal v p (build k (λ j. q + j))) }
 {
-    let outs = numbers_from(q, k as usize);
     Operator {
         kind: Kind::Deal,
         count: k,
         variable: v,
         field: 0,
         ins: [p, 0, 0, 0],
-        outs,
+        outs: numbers_from(q, k as usize),
         steps: [sheet_step::NO_STEP; sheet_operator::PLACES],
     }
 }
@@ -54,13 +53,12 @@ fn gathering(v: u8, q: u8, p: u8, k: u8) -> Operator
     requires { (k ≤ PLACES) × (p + k ≤ 255) }
     ensures { result ≡ memory (gather v q (build k (λ j. p + j))) }
 {
-    let ins = numbers_from(p, k as usize);
     Operator {
         kind: Kind::Gather,
         count: k,
         variable: v,
         field: 0,
-        ins,
+        ins: numbers_from(p, k as usize),
         outs: [q, 0, 0, 0],
         steps: [sheet_step::NO_STEP; sheet_operator::PLACES],
     }
@@ -71,15 +69,10 @@ fn copied_line(o: Operator, p: u8, q: u8) -> Operator
     requires { LineIn o }
     ensures { result ≡ memory (line p q (steps_in o.count o.steps)) }
 {
-    let steps = o.steps;
     Operator {
-        kind: Kind::Line,
-        count: o.count,
-        variable: 0,
-        field: 0,
         ins: [p, 0, 0, 0],
         outs: [q, 0, 0, 0],
-        steps,
+        ..o
     }
 }
 
@@ -108,10 +101,7 @@ fn source(i: usize, k: usize, m: usize) -> usize
     requires { (i ≤ m) × (m < OPERATORS) × (k ≤ PLACES) }
     ensures { result ≡ cond (leb (m - i) (k + 1)) i (m - (k + 1)) }
 {
-    if m - i <= k + 1 {
-        return i;
-    }
-    m - (k + 1)
+    if m - i <= k + 1 { i } else { m - (k + 1) }
 }
 
 // The operators of the new sheet: those before i stay, and those after it move up.
@@ -119,14 +109,10 @@ fn parts(t: Sheet, i: usize, k: u8) -> [Operator; sheet::OPERATORS]
     requires { Splits t i k }
     ensures { result ≡ pad OPERATORS no_operator (map memory (parted (view_sheet t) i k).ops) }
 {
-    let queues = t.queues;
-    let variables = t.variables;
     let mut r = t.operators;
     for m in i..sheet::OPERATORS {
-        let from = source(i, k as usize, m);
-        let o = t.operators[from];
-        let p = piece(o, queues, variables, k, m - i);
-        r[m] = p;
+        let o = t.operators[source(i, k as usize, m)];
+        r[m] = piece(o, t.queues, t.variables, k, m - i);
     }
     r
 }
@@ -135,13 +121,12 @@ fn parted_sheet(t: Sheet, i: usize, k: u8) -> Sheet
     requires { Splits t i k }
     ensures { result ≡ memory_sheet (parted (view_sheet t) i k) }
 {
-    let operators = parts(t, i, k);
     Sheet {
-        inputs: t.inputs,
         queues: t.queues + 2 * k,
         variables: t.variables + 2,
         count: t.count + k + 1,
-        operators,
+        operators: parts(t, i, k),
+        ..t
     }
 }
 
@@ -149,12 +134,8 @@ fn parted_sheet(t: Sheet, i: usize, k: u8) -> Sheet
 fn step_free(t: Step) -> bool
     ensures { result ≡ (touches_none t && writes_some t) }
 {
-    let f = t.func;
-    let w = sheet_step::row_of(f);
-    if w.variable {
-        return false;
-    }
-    w.writes != 0
+    let w = sheet_step::row_of(t.func);
+    !w.variable && w.writes != 0
 }
 
 fn steps_free(ss: [Step; sheet_operator::PLACES], n: usize) -> bool
@@ -162,8 +143,7 @@ fn steps_free(ss: [Step; sheet_operator::PLACES], n: usize) -> bool
     ensures { result ≡ all (λ t. touches_none t && writes_some t) (steps_in n ss) }
 {
     for j in 0..n {
-        let t = ss[j];
-        if !step_free(t) {
+        if !step_free(ss[j]) {
             return false;
         }
     }
@@ -174,13 +154,7 @@ fn steps_free(ss: [Step; sheet_operator::PLACES], n: usize) -> bool
 fn in_range(count: u8, a: u8, k: u8) -> bool
     ensures { result ≡ (ltb a count && (leb 2 k && leb k PLACES)) }
 {
-    if count <= a {
-        return false;
-    }
-    if k < FEWEST_WAYS {
-        return false;
-    }
-    k as usize <= sheet_operator::PLACES
+    a < count && FEWEST_WAYS <= k && k as usize <= sheet_operator::PLACES
 }
 
 // The head of the new sheet stays in its ranges.
@@ -188,37 +162,29 @@ fn has_room(queues: u8, variables: u8, count: u8, k: u8) -> bool
     ensures { result ≡ (leb (queues + 2 * k) QUEUES && (leb (variables + 2) VARIABLES && leb (count + k + 1) OPERATORS)) }
 {
     let ways = k as usize;
-    if run_machine::QUEUES < queues as usize + 2 * ways {
-        return false;
-    }
-    if run_machine::VARIABLES < variables as usize + 2 {
-        return false;
-    }
-    count as usize + ways + 1 <= sheet::OPERATORS
+    queues as usize + 2 * ways <= run_machine::QUEUES
+        && variables as usize + 2 <= run_machine::VARIABLES
+        && count as usize + ways + 1 <= sheet::OPERATORS
 }
 
 // The split of an accepted sheet, or refusal 14 to 17.
-pub fn split_calm(t: Sheet, a: u8, k: u8) -> Rewritten
+pub fn split_calm(t: Sheet, a: u8, k: u8) -> Result<Sheet, Refusal>
     requires { check_of t ≡ accepted }
-    ensures { Rewrites (answering (split (view_sheet t) a k)) result.answer result.sheet }
+    ensures { Rewrites (answering (split (view_sheet t) a k)) result }
 {
     if !in_range(t.count, a, k) {
-        return rewrite_rules::refused(14);
+        return Err(Reason::NoOperator.into());
     }
     let i = a as usize;
     let o = t.operators[i];
     if !rewrite_rules::is_line(o) {
-        return rewrite_rules::refused(15);
+        return Err(Reason::NoLine.into());
     }
-    let room = has_room(t.queues, t.variables, t.count, k);
-    let steps = o.steps;
-    let free = steps_free(steps, o.count as usize);
-    if !room {
-        return rewrite_rules::refused(16);
+    if !has_room(t.queues, t.variables, t.count, k) {
+        return Err(Reason::TooLarge.into());
     }
-    if !free {
-        return rewrite_rules::refused(17);
+    if !steps_free(o.steps, o.count as usize) {
+        return Err(Reason::Forbidden.into());
     }
-    let sheet = parted_sheet(t, i, k);
-    rewrite_rules::done(sheet)
+    Ok(parted_sheet(t, i, k))
 }

@@ -1,6 +1,6 @@
 -- The loop that runs a list of queues: what holds at its head, one turn, and its end.
 -- Assumes nothing.
-use mathlib.Core.Path.{◌≡◌, refl, sym, ap, ◌∙◌, subst}
+use mathlib.Core.Path.{◌≡◌, refl, sym, ap, ◌∙◌}
 use mathlib.Core.List.{List}
 use Prim.Native.Nat.{ℕ, ◌+◌, ◌-◌, ◌≤◌, ◌<◌, ◌%◌}
 use native.Mathlib.Omega.{arith}
@@ -11,18 +11,18 @@ use Rattle.base_lists.specs.Lists.{bit}
 use Rattle.base_lists.proofs.Bits.{bit_le}
 use Rattle.sheet_operator.specs.Memory.{view}
 use Rattle.base_bounds.specs.Bounds.{OPERATORS, VARIABLES, QUEUES}
-use Rattle.sheet.specs.declared.Answer.{Answer}
-use Rattle.sheet.specs.declared.Answer.TheVariants.{Done}
+use Rattle.std.specs.Prelude.{Result, Ok}
+use Rattle.base_refusal.specs.declared.Refusal.{Refusal}
 use Rattle.sheet.specs.declared.Sheet.{Sheet}
 use Rattle.sheet.specs.Answer.{Paper, accepted, refused, is_accepted, paper}
 use Rattle.sheet.specs.Sheet.{op_at, view_sheet}
 use Rattle.run_machine.specs.declared.State.{State}
 use Rattle.run_machine.specs.Machine.{Machine, Outcome, refuse, done, fire_m, Ran, ran_on, run_from, run_m}
 use Rattle.run_machine.specs.Numbers.{decode, state_of, store_in, GoodM}
-use Rattle.run_machine.specs.Calls.{saved, fire_known, run_known}
-use Rattle.run_machine.specs.Answers.{Answers, RunAnswers}
+use Rattle.run_machine.specs.Calls.{saved, run_known}
+use Rattle.run_machine.specs.Answers.{RunAnswers}
 use Rattle.run_machine.specs.Readers.{readers_of}
-use Rattle.run_machine.specs.Working.{Stands, fire_found}
+use Rattle.run_machine.specs.Working.{Stands, fire_found, lent, state_with, LentAnswers}
 use Rattle.run_machine.proofs.Good.{decode_of_encode, encode_of_decode, good_of_machine, machine_of_good}
 use Rattle.run_machine.proofs.Keeps.{fire_keeps}
 use Rattle.run_machine.proofs.RunLaws.{run_next, run_end}
@@ -84,50 +84,42 @@ module _ (t : Sheet) (st₀ : State) (s₀ : List ℤ) (l : List ℕ) where
           ran = cc;
         }
 
-    after_turn : (q : ℕ) (o : Outcome) (answer : Answer) (st' : State) (s' : List ℤ) (n : ℕ) → fire_m (view_sheet t) (decode st s) q ≡ o →
-        Answers (saved st s o) answer st' s' → n ≡ bit (is_accepted (paper answer)) → After o st' s' n
-    after_turn q (refuse j) answer st' s' n h a b = after_refused j (paper answer) st' s' n a.answered a.stated a.stored b
-    after_turn q (done m) answer st' s' n h a b = after_done q m (paper answer) st' s' n h a.answered a.stated a.stored b
+    after_turn : (q : ℕ) (o : Outcome) (p : Paper) (st' : State) (s' : List ℤ) (n : ℕ) → fire_m (view_sheet t) (decode st s) q ≡ o →
+        p ≡ (saved st s o).answer → st' ≡ (saved st s o).state → s' ≡ (saved st s o).store → n ≡ bit (is_accepted p) → After o st' s' n
+    after_turn q (refuse j) p st' s' n h a e f b = after_refused j p st' s' n a e f b
+    after_turn q (done m) p st' s' n h a e f b = after_done q m p st' s' n h a e f b
 
-    -- one turn: the entry fires or is skipped
-    running_next : (answer : Answer) (st' : State) (s' : List ℤ) (n : ℕ) → k < length l →
-        Answers (fire_known t st s (get_or l k 0)) answer st' s' → n ≡ bit (is_accepted (paper answer)) →
-        Running t st₀ s₀ l st' s' (fired + n) (skipped + (1 - n)) (k + 1)
-    running_next answer st' s' n b a e =
-        let o = fire_m (view_sheet t) (decode st s) (get_or l k 0) in
-        let f : After o st' s' n = after_turn (get_or l k 0) o answer st' s' n refl a e in
+    -- one turn: the entry's operator, as the code finds it, fires or is skipped
+    pub running_turn : (rs : List ℕ) (i : ℕ) → rs ≡ readers_of (view_sheet t).ops → i ≡ get_or rs (get_or l k 0) OPERATORS →
+        (x : Result (Unit {0}) Refusal) (cs : List ℕ) (vs s' : List ℤ) (n : ℕ) → k < length l →
+        LentAnswers (λ (m : Machine). fire_found (ltb i OPERATORS) (view (op_at t (i % OPERATORS))) m (get_or l k 0))
+        (lent st.counts st.vars s) x (lent cs vs s') →
+        n ≡ bit (is_accepted (paper x)) → Running t st₀ s₀ l (state_with cs vs) s' (fired + n) (skipped + (1 - n)) (k + 1)
+    running_turn rs i e d x cs vs s' n b a c =
+        let g = fire_as_found t (get_or l k 0) i rs e d r.stands.sheet (decode st s) in
+        let f = after_turn (get_or l k 0) _ (paper x) (state_with cs vs) s' n (sym g) a.answered a.stated a.stored c in
         record {
           stands = f.stands;
           counts = f.counts;
           vars = f.vars;
-          left = ap (λ (x : Ran). run_from (view_sheet t) (drop (k + 1) l) x) f.ran
+          left = ap (λ (y : Ran). run_from (view_sheet t) (drop (k + 1) l) y)
+              (f.ran ∙ ap (λ (o : Outcome). ran_on o (ran_with fired skipped (decode st s))) g)
               ∙ sym (run_next (view_sheet t) l k (ran_with fired skipped (decode st s)) b)
               ∙ r.left;
-          total = omega (arith, r.total, bit_le (is_accepted (paper answer)));
+          total = omega (arith, r.total, bit_le (is_accepted (paper x)));
           within = omega arith;
         }
 
-    -- the same where the entry's operator is fired as the code finds it
-    pub running_turn : (rs : List ℕ) (i : ℕ) → rs ≡ readers_of (view_sheet t).ops → i ≡ get_or rs (get_or l k 0) OPERATORS →
-        (answer : Answer) (st' : State) (s' : List ℤ) (n : ℕ) → k < length l →
-        Answers (saved st s (fire_found (ltb i OPERATORS) (view (op_at t (i % OPERATORS))) (decode st s) (get_or l k 0))) answer st' s' →
-        n ≡ bit (is_accepted (paper answer)) → Running t st₀ s₀ l st' s' (fired + n) (skipped + (1 - n)) (k + 1)
-    running_turn rs i e f answer st' s' n b a =
-        running_next answer st' s' n b
-        (subst (λ (o : Outcome). Answers (saved st s o) answer st' s') (fire_as_found t (get_or l k 0) i rs e f r.stands.sheet (decode st s)) a)
-
     -- at the end the numbers are those of the whole run
-    pub running_end : length l ≤ k → RunAnswers (run_known t st₀ s₀ l) Done fired skipped st s
+    pub running_end : length l ≤ k → RunAnswers (run_known t st₀ s₀ l) st₀ (Ok (record { fired = fired; skipped = skipped; state = st })) s
     running_end b =
         let e : ran_with fired skipped (decode st s) ≡ run_m (view_sheet t) l (decode st₀ s₀) =
         sym (run_end (view_sheet t) l k (ran_with fired skipped (decode st s)) b) ∙ r.left in
         let f = encode_of_decode (view_sheet t) st s r.stands.numbers r.counts in
         record {
-          call = record {
-            answered = refl;
-            stated = sym f.0 ∙ ap (λ (x : Ran). state_of x.machine) e;
-            stored = sym f.1 ∙ ap (λ (x : Ran). store_in x.machine) e;
-          };
+          answered = refl;
           firings = ap (λ (x : Ran). x.fired) e;
           skips = ap (λ (x : Ran). x.skipped) e;
+          stated = sym f.0 ∙ ap (λ (x : Ran). state_of x.machine) e;
+          stored = sym f.1 ∙ ap (λ (x : Ran). store_in x.machine) e;
         }

@@ -1,6 +1,6 @@
 -- A take: an output by the readers' table, and what each answer of a take says, as numbers, of the queues.
 -- Assumes nothing.
-use mathlib.Core.Path.{◌≡◌, sym, ap, ◌∙◌}
+use mathlib.Core.Path.{◌≡◌, refl, sym, ap, ◌∙◌}
 use mathlib.Core.Bool.{Bool, true, false, not, ◌&&◌}
 use mathlib.Core.List.{List, [], ◌∷◌}
 use mathlib.Core.Logic.{⊎_elim}
@@ -14,10 +14,12 @@ use Rattle.base_lists.proofs.Build.{order}
 use Rattle.base_lists.proofs.Tests.{both}
 use Rattle.sheet_operator.specs.Op.{double, Abstract}
 use Rattle.base_bounds.specs.Bounds.{OPERATORS, VARIABLES, FIELDS, QUEUES}
-use Rattle.sheet.specs.declared.Answer.{Answer}
-use Rattle.sheet.specs.declared.Answer.TheVariants.{Done, Refused}
+use Rattle.std.specs.Prelude.{Ok, Err, None}
+use Rattle.base_refusal.specs.declared.Reason.{Reason}
+use Rattle.base_refusal.specs.declared.Reason.TheVariants.{WrongQueue, EmptyQueue}
+use Rattle.base_refusal.specs.Refusal.{number_of, refusal}
 use Rattle.sheet.specs.declared.Sheet.{Sheet}
-use Rattle.sheet.specs.Answer.{accepted, paper}
+use Rattle.sheet.specs.Answer.{accepted}
 use Rattle.sheet.specs.Sheet.{view_sheet}
 use Rattle.sheet.specs.Check.{check_of}
 use Rattle.sheet.proofs.Accepted.{ranges_of_accepted}
@@ -26,10 +28,9 @@ use Rattle.run_store.specs.Store.{part, first_of}
 use Rattle.run_store.specs.Queues.{items_of}
 use Rattle.run_store.specs.declared.Item.{Item}
 use Rattle.run_machine.specs.declared.State.{State}
-use Rattle.run_machine.specs.declared.TakenItem.{TakenItem}
 use Rattle.run_machine.specs.Machine.{Machine, is_output, Take, none, take_from, take_m}
 use Rattle.run_machine.specs.Numbers.{decode}
-use Rattle.run_machine.specs.Calls.{TakeCall, unchanged, saved_take, no_item, take_known}
+use Rattle.run_machine.specs.Calls.{TakeCall, saved_take, take_known}
 use Rattle.run_machine.specs.Answers.{TakeAnswers}
 use Rattle.run_machine.specs.Readers.{reader_from, readers_of}
 use Rattle.run_machine.specs.Working.{Raw, raw, take_raw, Stands}
@@ -80,38 +81,22 @@ take_from_lem : (a : Abstract) (m : Machine) (q : ℕ) (xs : List Item) → is_o
 unfolding take_m
 take_from_lem a m q xs h e = rw h (ap (take_from m q) e)
 
--- a call that changes nothing, as `no_take` answers it
-pub no_take_answers : (c : TakeCall) (x : Answer) (st : State) (s : List ℤ) (r : TakenItem) → c ≡ record { call = unchanged (paper x) st s; item = no_item } →
-    (r.answer ≡ x) × (r.item ≡ no_item) × (r.state ≡ st) → TakeAnswers c r.answer r.item r.state s
-no_take_answers c x st s r e h =
-    record {
-      call = record {
-        answered = ap paper h.0 ∙ sym (ap (λ (d : TakeCall). d.call.answer) e);
-        stated = h.2 ∙ sym (ap (λ (d : TakeCall). d.call.state) e);
-        stored = sym (ap (λ (d : TakeCall). d.call.store) e);
-      };
-      taken = h.1 ∙ sym (ap (λ (d : TakeCall). d.item) e);
-    }
-
-answers_none : (st : State) (s : List ℤ) (k : Take) (n : ℕ) (r : TakenItem) → k ≡ none n →
-    (r.answer ≡ Refused n) × (r.item ≡ no_item) × (r.state ≡ st) → TakeAnswers (saved_take st s k) r.answer r.item r.state s
-answers_none st s k n r e h = no_take_answers (saved_take st s k) (Refused n) st s r (ap (saved_take st s) e) h
+-- a refused take answers its reason and leaves all as it was
+refused_take : (st : State) (s : List ℤ) (k : Take) (reason : Reason) → k ≡ none (number_of reason) →
+    TakeAnswers (saved_take st s k) st (Err (refusal reason None)) s
+refused_take st s k reason e = rw e (record { answered = refl; taken = refl; stated = refl; stored = refl })
 
 module _ (t : Sheet) (st : State) (s : List ℤ) (q : ℕ) where
-  pub takes_no_output : (b : Bool) (r : TakenItem) → b ≡ is_output (view_sheet t) q → b ≡ false →
-      (r.answer ≡ Refused 9) × (r.item ≡ no_item) × (r.state ≡ st) →
-      TakeAnswers (take_known t st s q) r.answer r.item r.state s
-  takes_no_output b r e f h = answers_none st s _ 9 r (take_no_output (view_sheet t) (decode st s) q (sym e ∙ f)) h
+  pub takes_no_output : (b : Bool) → b ≡ is_output (view_sheet t) q → b ≡ false → TakeAnswers (take_known t st s q) st (Err (refusal WrongQueue None)) s
+  takes_no_output b e f = refused_take st s _ WrongQueue (take_no_output (view_sheet t) (decode st s) q (sym e ∙ f))
 
-  pub takes_empty : (b : Bool) (r : TakenItem) → b ≡ is_output (view_sheet t) q → b ≡ true → get_or st.counts q 0 ≡ 0 →
-      (r.answer ≡ Refused 10) × (r.item ≡ no_item) × (r.state ≡ st) →
-      TakeAnswers (take_known t st s q) r.answer r.item r.state s
-  takes_empty b r e f z h =
-      answers_none st s _ 10 r (take_from_lem (view_sheet t) (decode st s) q [] (sym e ∙ f) (empty_of_count st s q z)) h
+  pub takes_empty : (b : Bool) → b ≡ is_output (view_sheet t) q → b ≡ true → get_or st.counts q 0 ≡ 0 →
+      TakeAnswers (take_known t st s q) st (Err (refusal EmptyQueue None)) s
+  takes_empty b e f z = refused_take st s _ EmptyQueue (take_from_lem (view_sheet t) (decode st s) q [] (sym e ∙ f) (empty_of_count st s q z))
 
   pub takes_first : Stands t st s → length st.counts ≡ QUEUES → length st.vars ≡ VARIABLES → (b : Bool) → b ≡ is_output (view_sheet t) q → b ≡ true →
       0 < get_or st.counts q 0 → (x : Item) (cs : List ℕ) (s' : List ℤ) → x ≡ first_of (part s q) → raw cs s' ≡ take_raw (raw st.counts s) q →
-      TakeAnswers (take_known t st s q) Done x (record { counts = cs; vars = st.vars }) s'
+      TakeAnswers (take_known t st s q) st (Ok (record { item = x; state = record { counts = cs; vars = st.vars } })) s'
   takes_first h n v b e f p x cs s' d r =
       let a = view_sheet t in
       let m = decode st s in
@@ -122,12 +107,10 @@ module _ (t : Sheet) (st : State) (s : List ℤ) (q : ℕ) where
       let k = take_holds st.counts s m.queues (holds_of_good a st s h.numbers n) q (first_of (part s q)) xs c g.many g.fit l in
       let w = ap (saved_take st s) (take_from_lem a m q (first_of (part s q) ∷ xs) (sym e ∙ f) c) in
       record {
-        call = record {
-          answered = sym (ap (λ (y : TakeCall). y.call.answer) w);
-          stated = ap (λ (y : Raw). record { counts = y.counts; vars = st.vars }) r
-              ∙ ap (λ (u : List ℕ). record { counts = u; vars = st.vars }) k.counts
-              ∙ sym (ap (λ (y : TakeCall). y.call.state) w);
-          stored = ap (λ (y : Raw). y.store) r ∙ k.store ∙ sym (ap (λ (y : TakeCall). y.call.store) w);
-        };
+        answered = sym (ap (λ (y : TakeCall). y.call.answer) w);
         taken = d ∙ sym (ap (λ (y : TakeCall). y.item) w);
+        stated = ap (λ (y : Raw). record { counts = y.counts; vars = st.vars }) r
+            ∙ ap (λ (u : List ℕ). record { counts = u; vars = st.vars }) k.counts
+            ∙ sym (ap (λ (y : TakeCall). y.call.state) w);
+        stored = ap (λ (y : Raw). y.store) r ∙ k.store ∙ sym (ap (λ (y : TakeCall). y.call.store) w);
       }

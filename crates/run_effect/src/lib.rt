@@ -43,8 +43,7 @@ fn field(x: Flow, p: usize) -> i32
     requires { p < FIELDS }
     ensures { result ≡ field_of x p }
 {
-    let y = x.item;
-    y.f[p]
+    x.item.f[p]
 }
 
 // Drops the item unless low <= field p <= high.
@@ -52,17 +51,10 @@ fn keep(x: Flow, p: usize, low: i32, high: i32) -> Flow
     requires { p < FIELDS }
     ensures { result ≡ cond (between low (field_of x p) high) x (dropped x) }
 {
-    let v = field(x, p);
-    if base_number::is_between(low, v, high) {
+    if base_number::is_between(low, field(x, p), high) {
         return x;
     }
-    let y = x.item;
-    let vs = x.vars;
-    Flow {
-        kept: false,
-        item: y,
-        vars: vs,
-    }
+    Flow { kept: false, ..x }
 }
 
 // Field p becomes z.
@@ -70,14 +62,9 @@ fn with_field(x: Flow, p: usize, z: i32) -> Flow
     requires { p < FIELDS }
     ensures { result ≡ with_field x p z }
 {
-    let mut y = x.item;
-    y.f[p] = z;
-    let vs = x.vars;
-    Flow {
-        kept: x.kept,
-        item: y,
-        vars: vs,
-    }
+    let mut y = x;
+    y.item.f[p] = z;
+    y
 }
 
 // Field p plus low, wrapping.
@@ -85,9 +72,7 @@ fn add(x: Flow, p: usize, low: i32) -> Flow
     requires { p < FIELDS }
     ensures { result ≡ with_field x p (add_of (field_of x p) low) }
 {
-    let v = field(x, p);
-    let w = base_number::wrap_add(v, low);
-    with_field(x, p, w)
+    with_field(x, p, field(x, p).wrapping_add(low))
 }
 
 // Field r becomes field p.
@@ -95,8 +80,7 @@ fn copy(x: Flow, p: usize, r: usize) -> Flow
     requires { (p < FIELDS) × (r < FIELDS) }
     ensures { result ≡ with_field x r (field_of x p) }
 {
-    let v = field(x, p);
-    with_field(x, r, v)
+    with_field(x, r, field(x, p))
 }
 
 // Variable v plus 1, wrapping; field p becomes it.
@@ -104,17 +88,10 @@ fn count(x: Flow, v: usize, p: usize) -> Flow
     requires { (v < VARIABLES) × (p < FIELDS) }
     ensures { result ≡ with_field (with_var x v (count_of (var_of x v))) p (count_of (var_of x v)) }
 {
-    let mut vs = x.vars;
-    let n = vs[v];
-    let w = base_number::wrap_add(n, 1);
-    vs[v] = w;
-    let y = x.item;
-    let z = Flow {
-        kept: x.kept,
-        item: y,
-        vars: vs,
-    };
-    with_field(z, p, w)
+    let n = x.vars[v].wrapping_add(1);
+    let mut y = x;
+    y.vars[v] = n;
+    with_field(y, p, n)
 }
 
 // Field p becomes variable v.
@@ -122,9 +99,7 @@ fn stamp(x: Flow, v: usize, p: usize) -> Flow
     requires { (v < VARIABLES) × (p < FIELDS) }
     ensures { result ≡ with_field x p (var_of x v) }
 {
-    let vs = x.vars;
-    let w = vs[v];
-    with_field(x, p, w)
+    with_field(x, p, x.vars[v])
 }
 
 // One step over an item that may have been dropped already.
@@ -135,9 +110,8 @@ fn apply(s: Step, x: Flow) -> Flow
     if !x.kept {
         return x;
     }
-    let k = s.func;
     let p = s.p as usize;
-    match k {
+    match s.func {
         Func::None => x,
         Func::Keep => keep(x, p, s.low, s.high),
         Func::Add => add(x, p, s.low),
@@ -155,8 +129,7 @@ fn run_line(o: Operator, x: Flow) -> Flow
     let n = o.count as usize;
     let mut y = x;
     for i in 0..n {
-        let s = o.steps[i];
-        y = apply(s, y);
+        y = apply(o.steps[i], y);
     }
     y
 }
@@ -166,9 +139,7 @@ fn cursor(v: u8, vars: [i32; VARIABLES], ways: u8) -> usize
     requires { (v < VARIABLES) × (in_ways (get_or vars v (pos 0)) ways ≡ true) }
     ensures { (result ≡ cursor_at v vars) × (result < ways) }
 {
-    let i = v as usize;
-    let c = vars[i];
-    c as usize
+    vars[v as usize] as usize
 }
 
 // The variables with the cursor moved on by one.
@@ -177,61 +148,37 @@ fn move_on(v: u8, vars: [i32; VARIABLES], ways: u8) -> [i32; VARIABLES]
     ensures { result ≡ moved_on v ways vars }
 {
     let c = cursor(v, vars, ways);
-    let n = (c + 1) % (ways as usize);
-    let i = v as usize;
-    let mut u = vars;
-    u[i] = n as i32;
-    u
+    let mut moved = vars;
+    moved[v as usize] = ((c + 1) % (ways as usize)) as i32;
+    moved
 }
 
 // Whether a firing from queue q has to wait: a gather's cursor is at another queue.
+#[tactic(auto, unfolding(crate::specs::Effect::waits))]
 pub fn has_to_wait(o: Operator, q: u8, vars: [i32; VARIABLES]) -> bool
     requires { Able o × (cursor_good (view o) vars ≡ true) }
     ensures { result ≡ waits (view o) q vars }
 {
-    let k = o.kind;
-    match k {
-        Kind::Empty => false,
-        Kind::Line => false,
-        Kind::Latest => false,
-        Kind::Double => false,
-        Kind::Deal => false,
-        Kind::Gather => {
-            let c = cursor(o.variable, vars, o.count);
-            let p = o.ins[c];
-            p != q
-        }
+    match o.kind {
+        Kind::Gather => o.ins[cursor(o.variable, vars, o.count)] != q,
+        _ => false,
     }
 }
 
 fn line_effect(q: u8, y: Flow) -> Effect
     ensures { result_of result ≡ line_result q y }
 {
-    let z = y.item;
-    let vs = y.vars;
-    if y.kept {
-        return Effect {
-            puts: Puts::One(q),
-            item: z,
-            vars: vs,
-        };
-    }
-    Effect {
-        puts: Puts::Nowhere,
-        item: z,
-        vars: vs,
-    }
+    let puts = if y.kept { Puts::One(q) } else { Puts::Nowhere };
+    to(puts, y.item, y.vars)
 }
 
 fn latest(o: Operator, x: Item, vars: [i32; VARIABLES]) -> [i32; VARIABLES]
     requires { (o.variable < VARIABLES) × (o.field < FIELDS) }
     ensures { result ≡ set vars o.variable (get_or x.f o.field (pos 0)) }
 {
-    let v = o.variable as usize;
-    let i = o.field as usize;
-    let mut u = vars;
-    u[v] = x.f[i];
-    u
+    let mut kept = vars;
+    kept[o.variable as usize] = x.f[o.field as usize];
+    kept
 }
 
 fn to(puts: Puts, item: Item, vars: [i32; VARIABLES]) -> Effect
@@ -245,34 +192,23 @@ pub fn act(o: Operator, x: Item, vars: [i32; VARIABLES]) -> Effect
     requires { Able o × (cursor_good (view o) vars ≡ true) }
     ensures { result_of result ≡ effect (view o) x vars }
 {
-    let k = o.kind;
-    match k {
+    match o.kind {
         Kind::Empty => to(Puts::Nowhere, x, vars),
         Kind::Line => {
-            let y = run_line(
-                o,
-                Flow {
-                    kept: true,
-                    item: x,
-                    vars,
-                },
-            );
-            line_effect(o.outs[0], y)
+            let start = Flow {
+                kept: true,
+                item: x,
+                vars,
+            };
+            line_effect(o.outs[0], run_line(o, start))
         }
-        Kind::Latest => {
-            let u = latest(o, x, vars);
-            to(Puts::Nowhere, x, u)
-        }
+        Kind::Latest => to(Puts::Nowhere, x, latest(o, x, vars)),
         Kind::Double => to(Puts::Two(o.outs[0], o.outs[1]), x, vars),
         Kind::Deal => {
             let c = cursor(o.variable, vars, o.count);
-            let u = move_on(o.variable, vars, o.count);
-            to(Puts::One(o.outs[c]), x, u)
+            to(Puts::One(o.outs[c]), x, move_on(o.variable, vars, o.count))
         }
-        Kind::Gather => {
-            let u = move_on(o.variable, vars, o.count);
-            to(Puts::One(o.outs[0]), x, u)
-        }
+        Kind::Gather => to(Puts::One(o.outs[0]), x, move_on(o.variable, vars, o.count)),
     }
 }
 
@@ -280,26 +216,18 @@ fn in_ways(v: u8, vars: [i32; VARIABLES], ways: u8) -> bool
     requires { v < VARIABLES }
     ensures { result ≡ in_ways (get_or vars v (pos 0)) ways }
 {
-    let i = v as usize;
-    let c = vars[i];
-    if c < 0 {
-        return false;
-    }
-    c < (ways as i32)
+    let c = vars[v as usize];
+    0 <= c && c < (ways as i32)
 }
 
 // Whether an operator's cursor, if it has one, lies in its range.
+#[tactic(auto, unfolding(crate::specs::Effect::cursor_good))]
 pub fn cursor_good(o: Operator, vars: [i32; VARIABLES]) -> bool
     requires { Able o }
     ensures { result ≡ cursor_good (view o) vars }
 {
-    let k = o.kind;
-    match k {
-        Kind::Empty => true,
-        Kind::Line => true,
-        Kind::Latest => true,
-        Kind::Double => true,
-        Kind::Deal => in_ways(o.variable, vars, o.count),
-        Kind::Gather => in_ways(o.variable, vars, o.count),
+    match o.kind {
+        Kind::Deal | Kind::Gather => in_ways(o.variable, vars, o.count),
+        _ => true,
     }
 }

@@ -1,71 +1,69 @@
--- Two outcomes that meet the same contract are equal: answer, state and store, and what a call answers besides.
+-- Two outcomes that meet the same contract are equal: the answer with its value, and the store.
 -- Assumes nothing.
 use mathlib.Core.Path.{◌≡◌, refl, sym, ap, ◌∙◌}
 use mathlib.Core.List.{List, [], ◌∷◌}
 use Prim.Native.Nat.{ℕ}
+use native.Mathlib.Omega.{arith}
 use lib.IntN.{ℤ}
-use Rattle.sheet.specs.declared.Answer.{Answer}
-use Rattle.sheet.proofs.AnswerLaws.{paper_injective}
+use Rattle.std.specs.Prelude.{Ok, Err}
+use Rattle.std.specs.Prelude as std
+use Rattle.base_refusal.specs.declared.Reason.{Reason}
+use Rattle.base_refusal.specs.declared.Refusal.{Refusal}
+use Rattle.base_refusal.specs.Refusal.{number_or_zero}
+use Rattle.base_refusal.proofs.Reasons.{number_injective}
+use Rattle.sheet.proofs.AnswerLaws.{some_number, answer_injective}
 use Rattle.sheet_operator.specs.declared.Operator.{Operator}
 use Rattle.run_store.specs.declared.Item.{Item}
+use Rattle.run_store.specs.Store.{part, first_of}
+use Rattle.run_effect.specs.declared.Effect.{Effect}
 use Rattle.run_effect.specs.declared.Puts.{Puts}
 use Rattle.run_effect.specs.declared.Puts.TheVariants.{Nowhere, One, Two}
 use Rattle.run_effect.specs.Effect.{Result, puts_of, result_of}
-use Rattle.run_machine.specs.declared.Attempt.{Attempt}
-use Rattle.run_machine.specs.declared.Called.{Called}
 use Rattle.run_machine.specs.declared.RunEnd.{RunEnd}
 use Rattle.run_machine.specs.declared.ReadySet.{ReadySet}
 use Rattle.run_machine.specs.declared.State.{State}
 use Rattle.run_machine.specs.declared.TakenItem.{TakenItem}
 use Rattle.run_machine.specs.Calls.{Call, TakeCall, RunCall, ReadyCall}
-use Rattle.run_machine.specs.Answers.{Answers, TakeAnswers, RunAnswers, ReadyAnswers}
-use Rattle.run_machine.specs.Working.{Attempts}
-
-pub answers_one : {c : Call} {r r' : Answer} {st st' : State} {s s' : List ℤ} → Answers c r st s → Answers c r' st' s' →
-    (r ≡ r') × (st ≡ st') × (s ≡ s')
-answers_one {r = r} {r' = r'} h k =
-    (paper_injective r r' (h.answered ∙ sym k.answered), h.stated ∙ sym k.stated, h.stored ∙ sym k.stored)
-
-called_eq : {a a' : Answer} {st st' : State} → a ≡ a' → st ≡ st' → ◌≡◌ {A = Called} (record { answer = a; state = st }) (record { answer = a'; state = st' })
-called_eq p q = rw (p, q)
+use Rattle.run_machine.specs.Answers.{Answers, no_take, TakeAnswers, no_run, RunAnswers, none_ready, ReadyAnswers}
+use Rattle.run_machine.specs.Working.{attempted, Attempts}
 
 -- fresh, feed and fire
-pub called_one : {c : Call} {r r' : Called} {s s' : List ℤ} → Answers c r.answer r.state s → Answers c r'.answer r'.state s' →
+pub called_one : {c : Call} {before : State} {r r' : std.Result State Refusal} {s s' : List ℤ} → Answers c before r s → Answers c before r' s' →
     (r ≡ r') × (s ≡ s')
-called_one h k =
-    let e = answers_one h k in
-    (called_eq e.0 e.1, e.2)
+called_one {before = b} {r = r} {r' = r'} h k =
+    (answer_injective r r' b (h.answered ∙ sym k.answered) (h.stated ∙ sym k.stated), h.stored ∙ sym k.stored)
 
-taken_eq : {a a' : Answer} {x x' : Item} {st st' : State} → a ≡ a' → x ≡ x' → st ≡ st' →
-    ◌≡◌ {A = TakenItem} (record { answer = a; item = x; state = st }) (record { answer = a'; item = x'; state = st' })
-taken_eq p q r = rw (p, q, r)
+taken_eq : {x x' : Item} {st st' : State} → x ≡ x' → st ≡ st' →
+    ◌≡◌ {A = TakenItem} (record { item = x; state = st }) (record { item = x'; state = st' })
+taken_eq p q = cc
 
-pub taken_one : {c : TakeCall} {r r' : TakenItem} {s s' : List ℤ} → TakeAnswers c r.answer r.item r.state s →
-    TakeAnswers c r'.answer r'.item r'.state s' → (r ≡ r') × (s ≡ s')
-taken_one h k =
-    let e = answers_one h.call k.call in
-    (taken_eq e.0 (h.taken ∙ sym k.taken) e.1, e.2)
+pub taken_one : {c : TakeCall} {before : State} {r r' : std.Result TakenItem Refusal} {s s' : List ℤ} → TakeAnswers c before r s →
+    TakeAnswers c before r' s' → (r ≡ r') × (s ≡ s')
+taken_one {before = b} {r = r} {r' = r'} h k = (
+  answer_injective r r' (no_take b) (h.answered ∙ sym k.answered) (taken_eq (h.taken ∙ sym k.taken) (h.stated ∙ sym k.stated)),
+  h.stored ∙ sym k.stored,
+)
 
-ran_eq : {a a' : Answer} {m m' n n' : ℕ} {st st' : State} → a ≡ a' → m ≡ m' → n ≡ n' → st ≡ st' →
-    ◌≡◌ {A = RunEnd} (record { answer = a; fired = m; skipped = n; state = st }) (record { answer = a'; fired = m'; skipped = n'; state = st' })
-ran_eq p q r s = rw (p, q, r, s)
+ran_eq : {m m' n n' : ℕ} {st st' : State} → m ≡ m' → n ≡ n' → st ≡ st' →
+    ◌≡◌ {A = RunEnd} (record { fired = m; skipped = n; state = st }) (record { fired = m'; skipped = n'; state = st' })
+ran_eq p q r = cc
 
-pub ran_one : {c : RunCall} {r r' : RunEnd} {s s' : List ℤ} → RunAnswers c r.answer r.fired r.skipped r.state s →
-    RunAnswers c r'.answer r'.fired r'.skipped r'.state s' → (r ≡ r') × (s ≡ s')
-ran_one h k =
-    let e = answers_one h.call k.call in
-    (ran_eq e.0 (h.firings ∙ sym k.firings) (h.skips ∙ sym k.skips) e.1, e.2)
+pub ran_one : {c : RunCall} {before : State} {r r' : std.Result RunEnd Refusal} {s s' : List ℤ} → RunAnswers c before r s →
+    RunAnswers c before r' s' → (r ≡ r') × (s ≡ s')
+ran_one {before = b} {r = r} {r' = r'} h k =
+    let e = ran_eq (h.firings ∙ sym k.firings) (h.skips ∙ sym k.skips) (h.stated ∙ sym k.stated) in
+    (answer_injective r r' (no_run b) (h.answered ∙ sym k.answered) e, h.stored ∙ sym k.stored)
 
-ready_eq : {a a' : Answer} {m m' n n' l l' : ℕ} → a ≡ a' → m ≡ m' → n ≡ n' → l ≡ l' →
-    ◌≡◌ {A = ReadySet} (record { answer = a; set = m; count = n; lowest = l }) (record { answer = a'; set = m'; count = n'; lowest = l' })
-ready_eq p q r s = rw (p, q, r, s)
+ready_eq : {m m' n n' l l' : ℕ} → m ≡ m' → n ≡ n' → l ≡ l' →
+    ◌≡◌ {A = ReadySet} (record { set = m; count = n; lowest = l }) (record { set = m'; count = n'; lowest = l' })
+ready_eq p q r = cc
 
-pub ready_one : {c : ReadyCall} {r r' : ReadySet} → ReadyAnswers c r → ReadyAnswers c r' → r ≡ r'
+pub ready_one : {c : ReadyCall} {r r' : std.Result ReadySet Refusal} → ReadyAnswers c r → ReadyAnswers c r' → r ≡ r'
 ready_one {r = r} {r' = r'} h k =
-    ready_eq (paper_injective r.answer r'.answer (h.answered ∙ sym k.answered)) (h.bits ∙ sym k.bits) (h.many ∙ sym k.many)
-    (h.least ∙ sym k.least)
+    answer_injective r r' none_ready (h.answered ∙ sym k.answered)
+    (ready_eq (h.bits ∙ sym k.bits) (h.many ∙ sym k.many) (h.least ∙ sym k.least))
 
--- an attempt: the queues that it would put on are read off the list of them
+-- a try: the queues that its effect would put on are read off the list of them
 abbrev puts_from : List ℕ → Puts
 puts_from [] = Nowhere
 puts_from (a ∷ []) = One a
@@ -76,14 +74,22 @@ puts_back Nowhere = refl
 puts_back (One a) = refl
 puts_back (Two a b) = refl
 
-attempt_eq : {m m' : ℕ} {p p' : Puts} {x x' : Item} {vs vs' : List ℤ} → m ≡ m' → p ≡ p' → x ≡ x' → vs ≡ vs' →
-    ◌≡◌ {A = Attempt} (record { number = m; effect = record { puts = p; item = x; vars = vs } })
-    (record { number = m'; effect = record { puts = p'; item = x'; vars = vs' } })
-attempt_eq a b c d = rw (a, b, c, d)
+effect_eq : {p p' : Puts} {x x' : Item} {vs vs' : List ℤ} → p ≡ p' → x ≡ x' → vs ≡ vs' →
+    ◌≡◌ {A = Effect} (record { puts = p; item = x; vars = vs }) (record { puts = p'; item = x'; vars = vs' })
+effect_eq a b c = cc
 
-pub attempt_one : {o : Operator} {q : ℕ} {st : State} {s : List ℤ} {r r' : Attempt} → Attempts o q st s r → Attempts o q st s r' → r ≡ r'
-attempt_one {r = r} {r' = r'} h k =
-    let e : result_of r.effect ≡ result_of r'.effect = h.result ∙ sym k.result in
-    attempt_eq (h.number ∙ sym k.number)
-    (sym (puts_back r.effect.puts) ∙ ap (λ (w : Result). puts_from w.puts) e ∙ puts_back r'.effect.puts)
-    (ap (λ (w : Result). w.item) e) (ap (λ (w : Result). w.vars) e)
+effect_one : (e d : Effect) → result_of e ≡ result_of d → e ≡ d
+effect_one e d h =
+    effect_eq (sym (puts_back e.puts) ∙ ap (λ (w : Result). puts_from w.puts) h ∙ puts_back d.puts) (ap (λ (w : Result). w.item) h)
+    (ap (λ (w : Result). w.vars) h)
+
+pub attempt_one : {o : Operator} {q : ℕ} {st : State} {s : List ℤ} {r r' : std.Result Effect Reason} → Attempts o q st s r →
+    Attempts o q st s r' → r ≡ r'
+attempt_one {q = q} {st = st} {s = s} {r = r} {r' = r'} h k =
+    go r r' (first_of (part s q)) st.vars (h.number ∙ sym k.number) (h.result ∙ sym k.result)
+  where
+    go : (a b : std.Result Effect Reason) (x : Item) (vs : List ℤ) → number_or_zero a ≡ number_or_zero b → attempted a x vs ≡ attempted b x vs → a ≡ b
+    go (Ok e) (Ok d) x vs n w = ap Ok (effect_one e d w)
+    go (Ok e) (Err c) x vs n w = absurd (omega (arith, some_number c))
+    go (Err c) (Ok e) x vs n w = absurd (omega (arith, some_number c))
+    go (Err c) (Err d) x vs n w = ap Err (number_injective c d n)

@@ -1,9 +1,10 @@
 -- Which operator reads a queue, and what the runner answers when it is asked.
-use Rattle.std.specs.Prelude.{ℕ, suc, ◌≡◌, cond, List, [], ◌∷◌, ltb, set}
+use Rattle.std.specs.Prelude.{ℕ, suc, ◌≡◌, cond, List, [], ◌∷◌, ltb, set, Result}
+use Rattle.std.specs.Result.{result_unwrap_or}
 use Rattle.base_lists.specs.Lists.{build, member}
 use Rattle.sheet_operator.specs.Op.{Op, reads}
 use Rattle.base_bounds.specs.Bounds.{OPERATORS, QUEUES}
-use Rattle.sheet.specs.declared.Answer.{Answer}
+use Rattle.base_refusal.specs.declared.Refusal.{Refusal}
 use Rattle.sheet.specs.declared.Sheet.{Sheet}
 use Rattle.sheet.specs.Answer.{Paper, accepted, refused, is_accepted, paper}
 use Rattle.sheet.specs.Sheet.{view_sheet}
@@ -39,6 +40,6 @@ unfoldable pub reader_of : Sheet → ℕ → ReaderCall
 reader_of t q = cond (is_accepted (check_of t)) (reader_at (reader_from (view_sheet t).ops 0 q)) (no_reader (check_of t))
 
 -- answer and place are the call's
-pub record ReaderAnswers (c : ReaderCall) (answer : Answer) (place : ℕ) : Type 0 where
-  pub answered : paper answer ≡ c.answer
-  pub placed : place ≡ c.place
+pub record ReaderAnswers (c : ReaderCall) (r : Result ℕ Refusal) : Type 0 where
+  pub answered : paper r ≡ c.answer
+  pub placed : result_unwrap_or r OPERATORS ≡ c.place

@@ -1,12 +1,15 @@
 -- What the runner's inner functions ask and answer; the calls of Calls.antt are made of them.
 use Rattle.std.specs.Prelude.{ℕ, ◌+◌, ◌-◌, ◌<◌, ◌≡◌, Bool, true, false, List, [], ◌∷◌, length, get_or, set, ltb, ℤ}
+use Rattle.std.specs.Prelude as std
 use Rattle.base_lists.specs.Lists.{all, fresh}
+use Rattle.base_refusal.specs.declared.Reason.{Reason}
+use Rattle.base_refusal.specs.declared.Refusal.{Refusal}
+use Rattle.base_refusal.specs.Refusal.{number_or_zero}
 use Rattle.sheet_operator.specs.Op.{Op, defines}
 use Rattle.sheet_operator.specs.Memory.{view}
 use Rattle.sheet_operator.specs.declared.Operator.{Operator}
-use Rattle.sheet.specs.declared.Answer.{Answer}
 use Rattle.sheet.specs.declared.Sheet.{Sheet}
-use Rattle.sheet.specs.Answer.{accepted}
+use Rattle.sheet.specs.Answer.{accepted, paper}
 use Rattle.sheet.specs.Sheet.{view_sheet}
 use Rattle.sheet.specs.Check.{check_of}
 use Rattle.run_store.specs.Store.{STORE, part, first_of, push_at, take_at}
@@ -14,13 +17,12 @@ use Rattle.base_bounds.specs.Bounds.{QUEUES, ROOM}
 use Rattle.run_store.specs.declared.Item.{Item}
 use Rattle.run_store.specs.Quiet.{quiet_from}
 use Rattle.run_effect.specs.Able.{Able}
+use Rattle.run_effect.specs.declared.Effect.{Effect}
 use Rattle.run_effect.specs.Effect.{Result, sent, effect, cursor_good, result_of}
-use Rattle.run_machine.specs.declared.Attempt.{Attempt}
 use Rattle.run_machine.specs.declared.State.{State}
 use Rattle.run_machine.specs.Machine.{Machine, Outcome, refuse, done, fire_op}
 use Rattle.run_machine.specs.Numbers.{decode, good}
 use Rattle.run_machine.specs.Calls.{saved}
-use Rattle.run_machine.specs.Answers.{Answers}
 
 -- counts and store before they are read as queues: what the leaves leave
 pub record Raw : Type 0 where
@@ -82,9 +84,10 @@ abbrev pub state_in : Lent → State
 state_in l = state_with l.counts l.vars
 
 -- the answer and what is left in lent memory are those of a firing on the machine that was in it
-abbrev pub LentAnswers : (Machine → Outcome) → Lent → Answer → Lent → Type 0
-LentAnswers f before answer after =
-    Answers (saved (state_in before) before.store (f (decode (state_in before) before.store))) answer (state_in after) after.store
+pub record LentAnswers (f : Machine → Outcome) (before : Lent) (r : std.Result (Unit {0}) Refusal) (after : Lent) : Type 0 where
+  pub answered : paper r ≡ (saved (state_in before) before.store (f (decode (state_in before) before.store))).answer
+  pub stated : state_in after ≡ (saved (state_in before) before.store (f (decode (state_in before) before.store))).state
+  pub stored : after.store ≡ (saved (state_in before) before.store (f (decode (state_in before) before.store))).store
 
 -- the number of a refusal, 0 for none
 abbrev pub refusal_of : Outcome → ℕ
@@ -96,7 +99,12 @@ abbrev pub tried_on : Outcome → Op → Item → List ℤ → Result
 tried_on (refuse k) o x vs = sent [] x vs
 tried_on (done m) o x vs = effect o x vs
 
+-- what a try comes to, of an item and variables
+abbrev pub attempted : std.Result Effect Reason → Item → List ℤ → Result
+attempted (std.Ok e) x vs = result_of e
+attempted (std.Err reason) x vs = sent [] x vs
+
 -- what trying an operator answers: its refusal, and what the firing would do with the first item
-pub record Attempts (o : Operator) (q : ℕ) (st : State) (s : List ℤ) (r : Attempt) : Type 0 where
-  pub number : r.number ≡ refusal_of (fire_op (view o) (decode st s) q)
-  pub result : result_of r.effect ≡ tried_on (fire_op (view o) (decode st s) q) (view o) (first_of (part s q)) st.vars
+pub record Attempts (o : Operator) (q : ℕ) (st : State) (s : List ℤ) (r : std.Result Effect Reason) : Type 0 where
+  pub number : number_or_zero r ≡ refusal_of (fire_op (view o) (decode st s) q)
+  pub result : attempted r (first_of (part s q)) st.vars ≡ tried_on (fire_op (view o) (decode st s) q) (view o) (first_of (part s q)) st.vars

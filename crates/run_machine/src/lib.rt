@@ -1,18 +1,18 @@
 // The machine in numbers: the state, and one firing from a queue. The runner's calls are made of these.
 #![tactic(auto)]
 
-ghost use Rattle.std.specs.Prelude.{◌≡◌, true, [], ◌<◌, ltb, leb, length, get_or};
+ghost use Rattle.std.specs.Prelude.{◌≡◌, true, ◌<◌, ltb, leb, length, get_or};
 ghost use Rattle.base_lists.specs.Lists.{all, any};
 ghost use Rattle.sheet_operator.specs.Memory.{view};
 ghost use Rattle.run_store.specs.Store.{STORE};
 ghost use Rattle.base_bounds.specs.Bounds.{QUEUES, ROOM};
-ghost use Rattle.run_effect.specs.Effect.{puts_of, result_of, sent};
+ghost use Rattle.run_effect.specs.Effect.{puts_of};
 ghost use Rattle.run_machine.specs.Machine.{fire_op};
 ghost use Rattle.run_machine.specs.Working.{raw, put_raw, take_raw, puts_raw, state_with, Room, CanFire, fire_found, lent, LentAnswers, Attempts};
 
+use base_refusal::{Reason, Refusal};
 use run_effect::{Effect, Puts};
 use run_store::Item;
-use sheet::Answer;
 use sheet_operator::Operator;
 
 pub const QUEUES: usize = run_store::QUEUES;
@@ -30,49 +30,27 @@ pub struct State {
     pub vars: [i32; VARIABLES],
 }
 
-#[derive(Clone, Copy)]
-pub struct Called {
-    pub answer: Answer,
-    pub state: State,
-}
-
+// The item that a take removed, and the state afterwards.
 #[derive(Clone, Copy)]
 pub struct TakenItem {
-    pub answer: Answer,
     pub item: Item,
     pub state: State,
 }
 
+// How many of a run's firings were made and how many skipped, and the state afterwards.
 #[derive(Clone, Copy)]
 pub struct RunEnd {
-    pub answer: Answer,
     pub fired: usize,
     pub skipped: usize,
     pub state: State,
 }
 
-// What firing an operator would do: its refusal, 0 for none, and its effect.
-#[derive(Clone, Copy)]
-pub struct Attempt {
-    pub number: u8,
-    pub effect: Effect,
-}
-
+// The ready set, how many are ready, and the lowest.
 #[derive(Clone, Copy)]
 pub struct ReadySet {
-    pub answer: Answer,
     pub set: u32,
     pub count: u32,
     pub lowest: u32,
-}
-
-pub fn no(number: u8, state: State) -> Called
-    ensures { (result.answer ≡ Answer.Refused number) × (result.state ≡ state) }
-{
-    Called {
-        answer: Answer::Refused { number },
-        state,
-    }
 }
 
 // Whether a queue holds 64.
@@ -140,44 +118,26 @@ pub fn take_one(counts: &mut [u8; QUEUES], store: &mut [i32], q: u8)
     counts[i] = n - 1;
 }
 
-// A refused attempt: nothing is put, and item and variables are as they were.
-fn none_of(number: u8, x: Item, vars: [i32; VARIABLES]) -> Attempt
-    ensures { (result.number ≡ number) × (result_of result.effect ≡ sent [] x vars) }
-{
-    Attempt {
-        number,
-        effect: Effect {
-            puts: Puts::Nowhere,
-            item: x,
-            vars,
-        },
-    }
-}
-
-// Tries an operator from queue q: nothing is touched, so a refusal leaves all as it was.
-pub fn try_operator(o: Operator, q: u8, state: State, store: &[i32]) -> Attempt
+// What firing an operator from queue q would do: nothing is touched, so a refusal leaves all as it was.
+pub fn try_operator(o: Operator, q: u8, state: State, store: &[i32]) -> Result<Effect, Reason>
     requires { CanFire o q state store.now }
     ensures { Attempts o q state store.now result }
 {
     let i = q as usize;
     let counts = state.counts;
     let vars = state.vars;
-    let x = run_store::first(store, i);
     if counts[i] == 0 {
-        return none_of(10, x, vars);
+        return Err(Reason::EmptyQueue);
     }
     if run_effect::has_to_wait(o, q, vars) {
-        return none_of(11, x, vars);
+        return Err(Reason::Waits);
     }
+    let x = run_store::first(store, i);
     let e = run_effect::act(o, x, vars);
-    let puts = e.puts;
-    if no_room(counts, puts) {
-        return none_of(12, x, vars);
+    if no_room(counts, e.puts) {
+        return Err(Reason::FullQueue);
     }
-    Attempt {
-        number: 0,
-        effect: e,
-    }
+    Ok(e)
 }
 
 // Fires an operator from queue q. Counts and variables are lent, so that a firing copies none of them back.
@@ -187,7 +147,7 @@ fn fire_operator(
     counts: &mut [u8; QUEUES],
     vars: &mut [i32; VARIABLES],
     store: &mut [i32],
-) -> Answer
+) -> Result<(), Refusal>
     requires { (length counts.old ≡ QUEUES) × CanFire o q (state_with counts.old vars.old) store.old }
     ensures { LentAnswers (λ m. fire_op (view o) m q)
         (lent counts.old vars.old store.old) result
@@ -195,31 +155,20 @@ fn fire_operator(
 {
     let i = q as usize;
     if counts[i] == 0 {
-        return Answer::Refused { number: 10 };
+        return Err(Reason::EmptyQueue.into());
     }
     let cs = *counts;
     let vs = *vars;
-    let a = try_operator(
-        o,
-        q,
-        State {
-            counts: cs,
-            vars: vs,
-        },
-        &*store,
-    );
-    let number = a.number;
-    if number != 0 {
-        return Answer::Refused { number };
-    }
+    let before = State {
+        counts: cs,
+        vars: vs,
+    };
+    let e = try_operator(o, q, before, &*store)?;
     take_one(&mut *counts, &mut *store, q);
-    let e = a.effect;
-    let puts = e.puts;
-    let x = e.item;
-    put_all(&mut *counts, &mut *store, puts, x);
+    put_all(&mut *counts, &mut *store, e.puts, e.item);
     let next = e.vars;
     *vars = next;
-    Answer::Done
+    Ok(())
 }
 
 // Fires the operator that was found, 9 where none was.
@@ -230,14 +179,14 @@ pub fn fire_found(
     counts: &mut [u8; QUEUES],
     vars: &mut [i32; VARIABLES],
     store: &mut [i32],
-) -> Answer
+) -> Result<(), Refusal>
     requires { (length counts.old ≡ QUEUES) × (found ≡ true → CanFire o q (state_with counts.old vars.old) store.old) }
     ensures { LentAnswers (λ m. fire_found found (view o) m q)
         (lent counts.old vars.old store.old) result
         (lent counts.new vars.new store.new) }
 {
     if !found {
-        return Answer::Refused { number: 9 };
+        return Err(Reason::WrongQueue.into());
     }
     fire_operator(o, q, &mut *counts, &mut *vars, &mut *store)
 }

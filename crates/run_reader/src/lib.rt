@@ -22,13 +22,10 @@ fn with_reader(readers: [u8; run_machine::QUEUES], o: Operator, i: u8) -> [u8; r
     requires { Ready o × (all (λ q. ltb q QUEUES) (reads (view o)) ≡ true) }
     ensures { result ≡ readers_with readers (reads (view o)) i }
 {
-    let k = o.kind;
-    let s = sheet_operator::shape_of(k, o.count);
-    let n = s.ins as usize;
+    let s = sheet_operator::shape_of(o.kind, o.count);
     let mut r = readers;
-    for j in 0..n {
-        let q = o.ins[j] as usize;
-        r[q] = i;
+    for j in 0..s.ins as usize {
+        r[o.ins[j] as usize] = i;
     }
     r
 }
@@ -39,11 +36,8 @@ pub fn readers(t: Sheet) -> [u8; run_machine::QUEUES]
     ensures { result ≡ readers_of (view_sheet t).ops }
 {
     let mut r = [NONE; run_machine::QUEUES];
-    let mut i = t.count as usize;
-    while 0 < i {
-        i -= 1;
-        let o = t.operators[i];
-        let next = with_reader(r, o, i as u8);
+    for i in (0..t.count).rev() {
+        let next = with_reader(r, t.operators[i as usize], i);
         r = next;
     }
     r
@@ -53,9 +47,8 @@ pub fn readers(t: Sheet) -> [u8; run_machine::QUEUES]
 pub fn reader_at(readers: [u8; run_machine::QUEUES], q: u8) -> usize
     ensures { result ≡ get_or readers q OPERATORS }
 {
-    let i = q as usize;
-    if i < run_machine::QUEUES {
-        return readers[i] as usize;
+    match readers.get(q as usize) {
+        Some(i) => *i as usize,
+        None => sheet::OPERATORS,
     }
-    sheet::OPERATORS
 }

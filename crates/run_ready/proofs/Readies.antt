@@ -7,7 +7,6 @@ use Prim.Native.Nat.{ℕ, ◌+◌, ◌-◌, ◌*◌, ◌^◌, ◌%◌, ◌≤◌
 use native.Mathlib.Omega.{arith}
 use lib.Dec.{eqb, ltb}
 use lib.ListN.{get_or}
-use borrow.Author.Tests.{eq-eqb, ne_eqb}
 use Rattle.base_lists.specs.Lists.{bit}
 use Rattle.sheet_operator.specs.Op.{Op, double}
 use Rattle.sheet_operator.specs.Memory.{view}
@@ -44,20 +43,11 @@ accepts_number o m q (x ∷ xs) =
     waited_number (waits o q m.vars) (commit m q xs (effect o x m.vars))
     (committed_number (full m.queues (effect o x m.vars).puts) _)
 
-module _ (found : Bool) (o : Op) (m : Machine) (q : ℕ) where
-  tried : (n : ℕ) → found ≡ true → n ≡ refusal_of (fire_op o m q) → bit (accepts (fire_found found o m q)) ≡ bit (eqb n 0)
-  tried n h e =
-      ap (λ (b : Bool). bit (accepts (fire_found b o m q))) h
-      ∙ ap bit (accepts_number o m q (get_or m.queues q []) ∙ ap (λ (k : ℕ). eqb k 0) (sym e))
-
-  pub bit_unfound : found ≡ false → 0 ≡ bit (accepts (fire_found found o m q))
-  bit_unfound h = sym (ap (λ (b : Bool). bit (accepts (fire_found b o m q))) h)
-
-  pub bit_accepted : (n : ℕ) → found ≡ true → n ≡ refusal_of (fire_op o m q) → n ≡ 0 → 1 ≡ bit (accepts (fire_found found o m q))
-  bit_accepted n h e z = sym (tried n h e ∙ ap bit (eq-eqb n 0 z))
-
-  pub bit_refused : (n : ℕ) → found ≡ true → n ≡ refusal_of (fire_op o m q) → (n ≡ 0 → ⊥) → 0 ≡ bit (accepts (fire_found found o m q))
-  bit_refused n h e z = sym (tried n h e ∙ ap bit (ne_eqb n 0 z))
+pub bit_accepted : (found : Bool) (o : Op) (m : Machine) (q : ℕ) → found ≡ true → 0 ≡ refusal_of (fire_op o m q) →
+    1 ≡ bit (accepts (fire_found found o m q))
+bit_accepted found o m q h e =
+    sym (ap (λ (b : Bool). bit (accepts (fire_found b o m q))) h
+    ∙ ap bit (accepts_number o m q (get_or m.queues q []) ∙ ap (λ (k : ℕ). eqb k 0) (sym e)))
 
 -- ---- the loop
 

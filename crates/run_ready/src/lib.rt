@@ -21,8 +21,10 @@ fn ready_bit(found: bool, o: Operator, q: u8, state: State, store: &[i32]) -> u3
     if !found {
         return 0;
     }
-    let a = run_machine::try_operator(o, q, state, store);
-    if a.number == 0 { 1 } else { 0 }
+    match run_machine::try_operator(o, q, state, store) {
+        Ok(_) => 1,
+        Err(_) => 0,
+    }
 }
 
 // The ready set, from the highest queue down: each queue's bit is the lowest of twice what came before.

@@ -11,8 +11,9 @@ ghost use Rattle.run_effect.specs.Effect.{cursor_good};
 ghost use Rattle.run_machine.specs.Numbers.{good};
 ghost use Rattle.run_machine.specs.Calls.{stands_of};
 
+use base_refusal::{Reason, Refusal};
 use run_machine::State;
-use sheet::{Answer, Sheet};
+use sheet::Sheet;
 
 fn none_from(counts: [u8; run_machine::QUEUES], from: usize) -> bool
     requires { from ≤ QUEUES }
@@ -32,8 +33,7 @@ fn cursors_good(t: Sheet, vars: [i32; run_machine::VARIABLES]) -> bool
 {
     let n = t.count as usize;
     for i in 0..n {
-        let o = t.operators[i];
-        if !run_effect::cursor_good(o, vars) {
+        if !run_effect::cursor_good(t.operators[i], vars) {
             return false;
         }
     }
@@ -41,40 +41,25 @@ fn cursors_good(t: Sheet, vars: [i32; run_machine::VARIABLES]) -> bool
 }
 
 // 8: whether store and state are as they have to be for an accepted sheet.
+#[tactic(auto, unfolding(run_machine::specs::Numbers::good))]
 fn is_good(t: Sheet, state: State, store: &[i32]) -> bool
     requires { check_of t ≡ accepted }
     ensures { result ≡ good (view_sheet t) state store.now }
 {
-    if store.len() != run_machine::STORE {
-        return false;
-    }
-    let counts = state.counts;
-    if !run_store::quiet(store, counts) {
-        return false;
-    }
-    if !none_from(counts, t.queues as usize) {
-        return false;
-    }
-    let vars = state.vars;
-    if !run_store::zeros_from(&vars, t.variables as usize) {
-        return false;
-    }
-    cursors_good(t, vars)
+    store.len() == run_machine::STORE
+        && run_store::quiet(store, state.counts)
+        && none_from(state.counts, t.queues as usize)
+        && run_store::zeros_from(&state.vars, t.variables as usize)
+        && cursors_good(t, state.vars)
 }
 
 // The sheet's own refusal, then 8.
-pub fn stands(t: Sheet, state: State, store: &[i32]) -> Answer
+pub fn stands(t: Sheet, state: State, store: &[i32]) -> Result<(), Refusal>
     ensures { paper result ≡ stands_of t state store.now }
 {
-    let a = sheet::check(t);
-    match a {
-        Answer::Done => {
-            if is_good(t, state, store) {
-                return Answer::Done;
-            }
-            Answer::Refused { number: 8 }
-        }
-        Answer::RefusedAt { number, spot } => Answer::RefusedAt { number, spot },
-        Answer::Refused { number } => Answer::Refused { number },
+    sheet::check(t)?;
+    if !is_good(t, state, store) {
+        return Err(Reason::BadState.into());
     }
+    Ok(())
 }

@@ -1,5 +1,4 @@
 pub mod QueueLaws
 pub mod StoreLaws
 pub mod QuietLaws
-pub mod Copies
 pub mod LentParts

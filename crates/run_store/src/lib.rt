@@ -29,9 +29,7 @@ pub struct Item {
 pub fn clear(store: &mut [i32])
     ensures { store.new ≡ replicate (length store.old) (pos 0) }
 {
-    for at in 0..store.len() {
-        store[at] = 0;
-    }
+    store.fill(0);
 }
 
 // The part of a queue that holds `count` items, with one more.
@@ -40,9 +38,7 @@ fn push_part(part: &mut [i32], count: usize, x: Item)
     ensures { part.new ≡ pushed part.old count x }
 {
     let at = FIELDS * count;
-    for i in 0..FIELDS {
-        part[at + i] = x.f[i];
-    }
+    part[at..at + FIELDS].copy_from_slice(&x.f);
 }
 
 // One more item on queue q, which holds `count`.
@@ -60,11 +56,8 @@ fn take_part(part: &mut [i32])
     requires { length part.old ≡ PART }
     ensures { part.new ≡ without_oldest part.old }
 {
-    let last = PART - FIELDS;
-    for to in 0..last {
-        part[to] = part[to + FIELDS];
-    }
-    clear(&mut part[last..PART]);
+    part.copy_within(FIELDS..PART, 0);
+    part[PART - FIELDS..PART].fill(0);
 }
 
 // The oldest item of queue q goes.
@@ -82,10 +75,8 @@ fn first_item(part: &[i32]) -> Item
     requires { length part.now ≡ PART }
     ensures { result ≡ first_of part.now }
 {
-    let mut y = Item { f: [0i32; FIELDS] };
-    for field in 0..FIELDS {
-        y.f[field] = part[field];
-    }
+    let mut y = Item { f: [0; FIELDS] };
+    y.f.copy_from_slice(&part[..FIELDS]);
     y
 }
 
@@ -105,9 +96,8 @@ pub fn zeros_from(part: &[i32], from: usize) -> bool
     ensures { result ≡ zeros_past part.now from }
 {
     let mut clean = true;
-    for i in from..part.len() {
-        let v = part[i];
-        if v != 0 {
+    for v in &part[from..] {
+        if *v != 0 {
             clean = false;
         }
     }

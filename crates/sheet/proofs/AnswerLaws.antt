@@ -3,12 +3,17 @@
 use mathlib.Core.Path.{◌≡◌, refl, ap, sym}
 use mathlib.Core.Bool.{Bool, true, false, cond}
 use mathlib.Core.Option.{Option, some, none}
-use Prim.Native.Nat.{ℕ}
+use Prim.Native.Nat.{ℕ, ◌≤◌}
 use native.Mathlib.Omega.{arith}
+use Rattle.std.specs.Prelude.{Result, Ok, Err, Some, None}
+use Rattle.std.specs.Prelude as rattle
+use Rattle.std.specs.Result.{result_unwrap_or}
 use Rattle.base_lists.proofs.Build.{never}
-use Rattle.sheet.specs.declared.Answer.{Answer}
-use Rattle.sheet.specs.declared.Answer.TheVariants.{Done, RefusedAt, Refused}
-use Rattle.sheet.specs.Answer.{Paper, accepted, refused_at, refused, is_accepted, paper}
+use Rattle.base_refusal.specs.declared.Reason.{Reason}
+use Rattle.base_refusal.specs.declared.Refusal.{Refusal}
+use Rattle.base_refusal.specs.Refusal.{number_of}
+use Rattle.base_refusal.proofs.Reasons.{number_injective}
+use Rattle.sheet.specs.Answer.{Paper, accepted, refused_at, refused, refused_for, is_accepted, paper}
 
 abbrev paper_number : Paper → ℕ
 paper_number none = 0
@@ -43,13 +48,48 @@ both_stand none true e = (refl, refl)
 both_stand none false e = absurd (none_apart 8 (sym e))
 both_stand (some x) b e = let z : ◌≡◌ {A = ℕ} 0 1 = cc in absurd (omega arith)
 
-pub paper_injective : (a b : Answer) → paper a ≡ paper b → a ≡ b
-paper_injective Done Done e = refl
-paper_injective Done (RefusedAt n s) e = absurd (accepted_apart n s e)
-paper_injective Done (Refused n) e = absurd (none_apart n e)
-paper_injective (RefusedAt m r) Done e = absurd (accepted_apart m r (sym e))
-paper_injective (RefusedAt m r) (RefusedAt n s) e = let d = same_refusal m n r s e in cc (d.0, d.1)
-paper_injective (RefusedAt m r) (Refused n) e = absurd (record_apart m n r e)
-paper_injective (Refused m) Done e = absurd (none_apart m (sym e))
-paper_injective (Refused m) (RefusedAt n s) e = absurd (record_apart n m s (sym e))
-paper_injective (Refused m) (Refused n) e = let d : m ≡ n = ap paper_number e in cc
+-- no reason has the number 0
+pub some_number : (reason : Reason) → 1 ≤ number_of reason
+some_number reason = grind arith
+
+-- a refusal is never an accepting answer
+pub refusal_apart : (reason : Reason) (spot : rattle.Option ℕ) → accepted ≡ refused_for reason spot → ⊥
+refusal_apart reason (Some k) e = accepted_apart (number_of reason) k e
+refusal_apart reason None e = none_apart (number_of reason) e
+
+-- and its paper is no accepting one
+pub refusal_refuses : (reason : Reason) (spot : rattle.Option ℕ) → is_accepted (refused_for reason spot) ≡ false
+refusal_refuses reason (Some k) = refl
+refusal_refuses reason None = refl
+
+refusal_injective : (a b : Reason) (x y : rattle.Option ℕ) → refused_for a x ≡ refused_for b y → (a ≡ b) × (x ≡ y)
+refusal_injective a b (Some k) (Some l) e = let d = same_refusal (number_of a) (number_of b) k l e in (number_injective a b d.0, ap Some d.1)
+refusal_injective a b (Some k) None e = absurd (record_apart (number_of a) (number_of b) k e)
+refusal_injective a b None (Some l) e = absurd (record_apart (number_of b) (number_of a) l (sym e))
+refusal_injective a b None None e = (number_injective a b (ap paper_number e), refl)
+
+refusal_eq : {a b : Reason} {x y : rattle.Option ℕ} → a ≡ b → x ≡ y →
+    ◌≡◌ {A = Refusal} (record { reason = a; spot = x }) (record { reason = b; spot = y })
+refusal_eq p q = cc
+
+-- refusals that say the same in the paper's words are the same
+pub refusal_of_paper : (e d : Refusal) → refused_for e.reason e.spot ≡ refused_for d.reason d.spot → e ≡ d
+refusal_of_paper e d h = let p = refusal_injective e.reason d.reason e.spot d.spot h in refusal_eq p.0 p.1
+
+pub paper_injective : (a b : Result (Unit {0}) Refusal) → paper a ≡ paper b → a ≡ b
+paper_injective (Ok x) (Ok y) h = refl
+paper_injective (Ok x) (Err d) h = absurd (refusal_apart d.reason d.spot h)
+paper_injective (Err e) (Ok y) h = absurd (refusal_apart e.reason e.spot (sym h))
+paper_injective (Err e) (Err d) h = ap Err (refusal_of_paper e d h)
+
+-- with the value that stands in an answer, or beside a refusal, they are the same whole
+pub answer_injective : {A : Type 0} (r r' : Result A Refusal) (d : A) → paper r ≡ paper r' → result_unwrap_or r d ≡ result_unwrap_or r' d → r ≡ r'
+answer_injective (Ok x) (Ok y) d h e = ap Ok e
+answer_injective (Ok x) (Err g) d h e = absurd (refusal_apart g.reason g.spot h)
+answer_injective (Err f) (Ok y) d h e = absurd (refusal_apart f.reason f.spot (sym h))
+answer_injective (Err f) (Err g) d h e = ap Err (refusal_of_paper f g h)
+
+-- an accepted answer is a value
+pub value_of : {A : Type 0} (r : Result A Refusal) (d : A) → paper r ≡ accepted → r ≡ Ok (result_unwrap_or r d)
+value_of (Ok x) d h = refl
+value_of (Err e) d h = absurd (refusal_apart e.reason e.spot (sym h))

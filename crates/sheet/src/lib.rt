@@ -7,8 +7,9 @@ ghost use Rattle.sheet_format.specs.Head.{head_good};
 ghost use Rattle.sheet.specs.Answer.{paper};
 ghost use Rattle.sheet.specs.Sheet.{no_sheet};
 ghost use Rattle.sheet.specs.Check.{vacant_from, check_of};
-ghost use Rattle.sheet.specs.Judges.{Judges};
+ghost use Rattle.sheet.specs.Judges.{Judged, Judges};
 
+use base_refusal::{Reason, Refusal};
 use sheet_judge::Seen;
 use sheet_operator::Operator;
 
@@ -21,22 +22,6 @@ pub struct Sheet {
     pub variables: u8,
     pub count: u8,
     pub operators: [Operator; OPERATORS],
-}
-
-// What a call answers: done, or the number of the refusal, for sheets with the record.
-#[derive(Clone, Copy)]
-pub enum Answer {
-    Done,
-    RefusedAt { number: u8, spot: u8 },
-    Refused { number: u8 },
-}
-
-// The first operator that is refused, with number 0 for none, and what is known of those before it.
-#[derive(Clone, Copy)]
-pub struct Judged {
-    pub number: u8,
-    pub spot: u8,
-    pub seen: Seen,
 }
 
 // What stands in a sheet's place on a refusal.
@@ -53,35 +38,29 @@ pub fn no_sheet() -> Sheet
     }
 }
 
-// The operators below N, each after those before it.
-fn judge_operators(t: Sheet) -> Judged
+// What is known of an operator after those seen, where it is kept.
+fn judge_operator(t: Sheet, seen: Seen, o: Operator) -> Result<Seen, Reason>
+    requires { head_good t.inputs t.queues t.variables t.count ≡ true }
+    ensures { Judged t seen o result }
+{
+    sheet_operator::check_places(o)?;
+    sheet_judge::admit(t.queues, t.variables, seen, o)
+}
+
+// What is known of the operators below N, each after those before it; or the first that is refused.
+fn judge_operators(t: Sheet) -> Result<Seen, Refusal>
     requires { head_good t.inputs t.queues t.variables t.count ≡ true }
     ensures { Judges t result }
 {
     let n = t.count as usize;
-    let queues = t.queues;
-    let variables = t.variables;
     let mut seen = sheet_judge::inputs_seen(t.inputs);
     for i in 0..n {
-        let o = t.operators[i];
-        let spot = (i + 1) as u8;
-        let number = sheet_operator::memory_number(o);
-        if number != 0 {
-            return Judged { number, spot, seen };
+        match judge_operator(t, seen, t.operators[i]) {
+            Ok(next) => seen = next,
+            Err(reason) => return Err(reason.at(i + 1)),
         }
-        let a = sheet_judge::admit(queues, variables, seen, o);
-        let number = a.number;
-        if number != 0 {
-            return Judged { number, spot, seen };
-        }
-        let next = a.seen;
-        seen = next;
     }
-    Judged {
-        number: 0,
-        spot: 0,
-        seen,
-    }
+    Ok(seen)
 }
 
 // A place from n on holds the empty operator.
@@ -108,33 +87,19 @@ fn vacant_from(t: Sheet) -> bool
 }
 
 // Any sheet in memory: accepted, or refusal 1 to 7 with its record.
-pub fn check(t: Sheet) -> Answer
+pub fn check(t: Sheet) -> Result<(), Refusal>
     ensures { paper result ≡ check_of t }
 {
     if !sheet_decode::head_good(t.inputs, t.queues, t.variables, t.count) {
-        return Answer::RefusedAt { number: 3, spot: 0 };
+        return Err(Reason::BadHead.at(0));
     }
-    let j = judge_operators(t);
-    let number = j.number;
-    if number != 0 {
-        return Answer::RefusedAt {
-            number,
-            spot: j.spot,
-        };
-    }
-    let past = t.count + 1;
+    let seen = judge_operators(t)?;
+    let past = t.count as usize + 1;
     if !vacant_from(t) {
-        return Answer::RefusedAt {
-            number: 1,
-            spot: past,
-        };
+        return Err(Reason::BadLength.at(past));
     }
-    let seen = j.seen;
     if !sheet_judge::all_defined(seen, t.queues) {
-        return Answer::RefusedAt {
-            number: 5,
-            spot: past,
-        };
+        return Err(Reason::QueueNotOnce.at(past));
     }
-    Answer::Done
+    Ok(())
 }

@@ -12,12 +12,10 @@ use Rattle.sheet_format.specs.Record as format
 use Rattle.sheet_format.specs.Record.{HEADER, bad, took, taken, refusal_in, op_in, rest_in}
 use Rattle.sheet_format.specs.Head.{head_number}
 use Rattle.sheet_format.proofs.Read.{from_of_taken, number_of_bad}
-use Rattle.sheet_decode.specs.Takes.{record_as, record_at, head_as, head_taken}
-use Rattle.sheet_decode.specs.declared.Head.{Head}
-use Rattle.sheet_decode.specs.declared.TakenRecord.{TakenRecord}
+use Rattle.sheet_decode.specs.Takes.{RecordTaken, HeadTaken, record_as, record_at, head_as, head_taken}
 use Rattle.sheet_decode.proofs.Cut.{whole_at}
 
-pub record Takes (s : List ℕ) (at : ℕ) (r : TakenRecord) : Type 0 where
+pub record Takes (s : List ℕ) (at : ℕ) (r : RecordTaken) : Type 0 where
   pub number : r.number ≡ refusal_in (taken (drop at s))
   pub op : r.number ≡ 0 → r.op ≡ memory (op_in (taken (drop at s)))
   pub rest : r.number ≡ 0 → drop r.next s ≡ rest_in (taken (drop at s))
@@ -42,11 +40,11 @@ takes_as s at (took o rest) e =
       inside = λ h. omega (arith, whole_at s at f.whole);
     }
 
-pub takes : (s : List ℕ) (at : ℕ) (r : TakenRecord) → r ≡ record_at s at → Takes s at r
+pub takes : (s : List ℕ) (at : ℕ) (r : RecordTaken) → r ≡ record_at s at → Takes s at r
 unfolding record_at
 takes s at r e = rw e (takes_as s at (taken (drop at s)) refl)
 
-pub record HeadTakes (s : List ℕ) (r : Head) : Type 0 where
+pub record HeadTakes (s : List ℕ) (r : HeadTaken) : Type 0 where
   pub number : r.number ≡ head_number s
   pub inputs : r.number ≡ 0 → r.inputs ≡ get_or s 4 0
   pub queues : r.number ≡ 0 → r.queues ≡ get_or s 5 0
@@ -64,6 +62,6 @@ head_takes_as s (suc n) e =
       count = λ h. absurd (omega arith);
     }
 
-pub head_takes : (s : List ℕ) (r : Head) → r ≡ head_taken s → HeadTakes s r
+pub head_takes : (s : List ℕ) (r : HeadTaken) → r ≡ head_taken s → HeadTakes s r
 unfolding head_taken
 head_takes s r e = rw e (head_takes_as s (head_number s) refl)

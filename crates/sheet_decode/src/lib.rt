@@ -7,8 +7,9 @@ ghost use Rattle.sheet_step.specs.Step.{STEP_BYTES, step_of, no_step};
 ghost use Rattle.sheet_operator.specs.Memory.{PLACES, memory};
 ghost use Rattle.sheet_format.specs.Record.{kind_of, cut, body_good, op_of};
 ghost use Rattle.sheet_format.specs.Head.{head_good};
-ghost use Rattle.sheet_decode.specs.Takes.{no_record, record_at, no_head, head_taken};
+ghost use Rattle.sheet_decode.specs.Takes.{record_answered, record_at, head_answered, head_taken};
 
+use base_refusal::Reason;
 use sheet_operator::{Kind, Operator};
 use sheet_step::Step;
 
@@ -21,13 +22,6 @@ const WAYS_LEAST: usize = 2 + 2;
 
 const WAYS_MOST: usize = 2 + sheet_operator::PLACES;
 
-// The refusals: a record that is cut short or whose body length is not its kind's, an unknown kind, a head out of its ranges.
-const BAD_LENGTH: u8 = 1;
-
-const BAD_KIND: u8 = 2;
-
-const BAD_HEAD: u8 = 3;
-
 pub const NO_OPERATOR: Operator = Operator {
     kind: Kind::Empty,
     count: 0,
@@ -38,18 +32,16 @@ pub const NO_OPERATOR: Operator = Operator {
     steps: [sheet_step::NO_STEP; sheet_operator::PLACES],
 };
 
-// An operator's record that was read: its refusal, 0 for none, where the next record starts, and the operator.
+// An operator's record that was read: where the next record starts, and the operator.
 #[derive(Clone, Copy)]
 pub struct TakenRecord {
-    pub number: u8,
     pub next: usize,
     pub op: Operator,
 }
 
-// The head that was read: its refusal, 0 for none, and its numbers.
+// The numbers of the head that was read.
 #[derive(Clone, Copy)]
 pub struct Head {
-    pub number: u8,
     pub inputs: u8,
     pub queues: u8,
     pub variables: u8,
@@ -233,41 +225,26 @@ fn operator_at(s: &[u8], at: usize, k: Kind, n: usize) -> Operator
     }
 }
 
-fn refused(number: u8) -> TakenRecord
-    ensures { result ≡ no_record number }
-{
-    TakenRecord {
-        number,
-        next: 0,
-        op: NO_OPERATOR,
-    }
-}
-
 // The operator's record at `at`, or its refusal.
-pub fn take(s: &[u8], at: usize) -> TakenRecord
+pub fn take(s: &[u8], at: usize) -> Result<TakenRecord, Reason>
     requires { at ≤ length s.now }
-    ensures { result ≡ record_at s.now at }
+    ensures { record_answered result ≡ record_at s.now at }
 {
     if is_cut(s, at) {
-        return refused(BAD_LENGTH);
+        return Err(Reason::BadLength);
     }
     let n = base_number::short_at(s, at);
     let code = base_number::short_at(s, at + 2);
     let k = kind_of(code);
     if sheet_operator::is_empty(k) {
-        return refused(BAD_KIND);
+        return Err(Reason::BadKind);
     }
     if !body_good(k, n) {
-        return refused(BAD_LENGTH);
+        return Err(Reason::BadLength);
     }
     let body = at + sheet_format::HEADER;
     let op = operator_at(s, body, k, n);
-    let next = body + n;
-    TakenRecord {
-        number: 0,
-        next,
-        op,
-    }
+    Ok(TakenRecord { next: body + n, op })
 }
 
 pub fn head_good(inputs: u8, queues: u8, variables: u8, count: u8) -> bool
@@ -291,43 +268,30 @@ pub fn head_good(inputs: u8, queues: u8, variables: u8, count: u8) -> bool
     count <= base_bounds::OPERATORS
 }
 
-fn no_head(number: u8) -> Head
-    ensures { result ≡ no_head number }
-{
-    Head {
-        number,
-        inputs: 0,
-        queues: 0,
-        variables: 0,
-        count: 0,
-    }
-}
-
 // The head at the front, or its refusal.
-pub fn take_head(s: &[u8]) -> Head
-    ensures { result ≡ head_taken s.now }
+pub fn take_head(s: &[u8]) -> Result<Head, Reason>
+    ensures { head_answered result ≡ head_taken s.now }
 {
     if is_cut(s, 0) {
-        return no_head(BAD_LENGTH);
+        return Err(Reason::BadLength);
     }
     if base_number::short_at(s, 2) != 1 {
-        return no_head(BAD_KIND);
+        return Err(Reason::BadKind);
     }
     if base_number::short_at(s, 0) != sheet_format::HEAD_BODY {
-        return no_head(BAD_LENGTH);
+        return Err(Reason::BadLength);
     }
     let inputs = s[4];
     let queues = s[5];
     let variables = s[6];
     let count = s[7];
     if !head_good(inputs, queues, variables, count) {
-        return no_head(BAD_HEAD);
+        return Err(Reason::BadHead);
     }
-    Head {
-        number: 0,
+    Ok(Head {
         inputs,
         queues,
         variables,
         count,
-    }
+    })
 }

@@ -6,12 +6,15 @@ use mathlib.Core.List.{List, [], ◌∷◌, ◌++◌}
 use Prim.Native.Nat.{ℕ}
 use lib.Dec.{ltb}
 use borrow.Author.Tests.{eq-eqb}
+use Rattle.std.specs.Prelude.{Result}
+use Rattle.std.specs.Result.{result_unwrap_or}
 use Rattle.base_lists.specs.Lists.{any, member}
 use Rattle.base_lists.proofs.Tests.{any_append, or_first}
+use Rattle.base_refusal.specs.declared.Reason.{Reason}
+use Rattle.base_refusal.specs.Refusal.{number_or_zero}
 use Rattle.sheet_operator.specs.Op.{Op, Abstract, reads, defines, names, cursors, with}
 use Rattle.sheet_operator.specs.Memory.{view}
 use Rattle.sheet_operator.specs.declared.Operator.{Operator}
-use Rattle.sheet_judge.specs.declared.Admitted.{Admitted}
 use Rattle.sheet_judge.specs.declared.Seen.{Seen}
 use Rattle.sheet_judge.specs.Judge.{Known, known, after}
 use Rattle.sheet_judge.specs.Seen.{known_by, Admits}
@@ -33,7 +36,7 @@ known_with a o =
     (fun_ext (λ (v : ℕ). any_last (λ (x : Op). member v (cursors x)) a.ops o))
 
 -- an operator that is kept is known from then on
-pub known_of_kept : {queues variables : ℕ} {seen : Seen} {o : Operator} {r : Admitted} → Admits queues variables seen o r → r.number ≡ 0 →
-    known_by r.seen ≡ after (known_by seen) (view o)
+pub known_of_kept : {queues variables : ℕ} {seen : Seen} {o : Operator} {r : Result Seen Reason} → Admits queues variables seen o r →
+    number_or_zero r ≡ 0 → known_by (result_unwrap_or r seen) ≡ after (known_by seen) (view o)
 known_of_kept {seen = seen} {o = o} {r = r} a e =
-    a.known ∙ ap (λ (b : Bool). cond b (after (known_by seen) (view o)) (known_by seen)) (eq-eqb r.number 0 e)
+    a.known ∙ ap (λ (b : Bool). cond b (after (known_by seen) (view o)) (known_by seen)) (eq-eqb (number_or_zero r) 0 e)

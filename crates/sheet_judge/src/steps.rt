@@ -11,8 +11,7 @@ pub fn steps_variables_good(ss: [Step; sheet_operator::PLACES], n: usize, variab
     ensures { result ≡ all (step_variable variables) (steps_in n ss) }
 {
     for j in 0..n {
-        let t = ss[j];
-        if !sheet_step::variable_good(t, variables) {
+        if !sheet_step::variable_good(ss[j], variables) {
             return false;
         }
     }
@@ -24,8 +23,7 @@ pub fn steps_places_good(ss: [Step; sheet_operator::PLACES], n: usize) -> bool
     ensures { result ≡ all step_places (steps_in n ss) }
 {
     for j in 0..n {
-        let t = ss[j];
-        if !sheet_step::places_good(t) {
+        if !sheet_step::places_good(ss[j]) {
             return false;
         }
     }

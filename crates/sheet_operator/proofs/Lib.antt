@@ -1,4 +1,3 @@
 pub mod ViewLaws
 pub mod Held
 pub mod InTurn
-pub mod Vacant

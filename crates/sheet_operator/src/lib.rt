@@ -2,9 +2,11 @@
 #![tactic(auto)]
 
 ghost use Rattle.std.specs.Prelude.{◌≡◌, ◌||◌, eqb, ltb};
+ghost use Rattle.base_refusal.specs.Refusal.{number_or_zero};
 ghost use Rattle.sheet_step.specs.Step.{blank};
 ghost use Rattle.sheet_operator.specs.Memory.{shape_of, zeros_from, blanks_from, tidy, is_empty, memory_number, vacant};
 
+use base_refusal::Reason;
 use sheet_step::Step;
 
 // A line's steps, or the ways of a deal or a gather, at the most.
@@ -13,7 +15,7 @@ pub const PLACES: usize = 4;
 // The same as a count.
 const MOST: u8 = PLACES as u8;
 
-#[derive(Clone, Copy)]
+#[derive(Clone, Copy, Debug, PartialEq, Eq)]
 pub enum Kind {
     Empty,
     Line,
@@ -78,32 +80,21 @@ pub fn shape_of(k: Kind, n: u8) -> Shape
 pub fn is_empty(k: Kind) -> bool
     ensures { result ≡ is_empty k }
 {
-    match k {
-        Kind::Empty => true,
-        Kind::Line => false,
-        Kind::Latest => false,
-        Kind::Double => false,
-        Kind::Deal => false,
-        Kind::Gather => false,
-    }
+    k == Kind::Empty
 }
 
 // A place from n on holds 0.
 fn zero_past(n: usize, j: usize, x: u8) -> bool
     ensures { result ≡ (ltb j n || eqb x 0) }
 {
-    if j < n {
-        return true;
-    }
-    x == 0
+    j < n || x == 0
 }
 
 fn zeros_from(n: usize, l: [u8; PLACES]) -> bool
     ensures { result ≡ zeros_from n l }
 {
     for j in 0..PLACES {
-        let x = l[j];
-        if !zero_past(n, j, x) {
+        if !zero_past(n, j, l[j]) {
             return false;
         }
     }
@@ -114,18 +105,14 @@ fn zeros_from(n: usize, l: [u8; PLACES]) -> bool
 fn blank_past(n: usize, j: usize, t: Step) -> bool
     ensures { result ≡ (ltb j n || blank t) }
 {
-    if j < n {
-        return true;
-    }
-    sheet_step::is_blank(t)
+    j < n || sheet_step::is_blank(t)
 }
 
 fn blanks_from(n: usize, l: [Step; PLACES]) -> bool
     ensures { result ≡ blanks_from n l }
 {
     for j in 0..PLACES {
-        let t = l[j];
-        if !blank_past(n, j, t) {
+        if !blank_past(n, j, l[j]) {
             return false;
         }
     }
@@ -136,79 +123,42 @@ fn blanks_from(n: usize, l: [Step; PLACES]) -> bool
 fn used_or_zero(used: bool, x: u8) -> bool
     ensures { result ≡ (used || eqb x 0) }
 {
-    if used {
-        return true;
-    }
-    x == 0
+    used || x == 0
 }
 
 // The count is in its kind's range, and what the kind or the count does not use is 0.
+#[tactic(auto, unfolding(crate::specs::Memory::tidy_as))]
 fn is_tidy(o: Operator) -> bool
     ensures { result ≡ tidy o }
 {
-    let k = o.kind;
-    let n = o.count;
-    let s = shape_of(k, n);
-    if n < s.least {
-        return false;
-    }
-    if s.most < n {
-        return false;
-    }
-    let ins = o.ins;
-    if !zeros_from(s.ins as usize, ins) {
-        return false;
-    }
-    let outs = o.outs;
-    if !zeros_from(s.outs as usize, outs) {
-        return false;
-    }
-    let steps = o.steps;
-    if !blanks_from(s.steps as usize, steps) {
-        return false;
-    }
-    if !used_or_zero(s.variable, o.variable) {
-        return false;
-    }
-    used_or_zero(s.field, o.field)
+    let s = shape_of(o.kind, o.count);
+    s.least <= o.count
+        && o.count <= s.most
+        && zeros_from(s.ins as usize, o.ins)
+        && zeros_from(s.outs as usize, o.outs)
+        && blanks_from(s.steps as usize, o.steps)
+        && used_or_zero(s.variable, o.variable)
+        && used_or_zero(s.field, o.field)
 }
 
-// An operator below N, before the judge: 2 where it is empty, 1 where it is not tidy, else 0.
-pub fn memory_number(o: Operator) -> u8
-    ensures { result ≡ memory_number o }
+// An operator below N, before the judge: it is not empty, and it is tidy.
+#[tactic(auto, unfolding(crate::specs::Memory::memory_number))]
+pub fn check_places(o: Operator) -> Result<(), Reason>
+    ensures { number_or_zero result ≡ memory_number o }
 {
-    let k = o.kind;
-    if is_empty(k) {
-        return 2;
+    if is_empty(o.kind) {
+        return Err(Reason::BadKind);
     }
-    if is_tidy(o) { 0 } else { 1 }
+    if !is_tidy(o) {
+        return Err(Reason::BadLength);
+    }
+    Ok(())
 }
 
 // The place from N on holds the empty operator.
+#[tactic(auto, unfolding(crate::specs::Memory::vacant))]
 pub fn is_vacant(o: Operator) -> bool
     ensures { result ≡ vacant o }
 {
-    let k = o.kind;
-    if !is_empty(k) {
-        return false;
-    }
-    if o.count != 0 {
-        return false;
-    }
-    let ins = o.ins;
-    if !zeros_from(0, ins) {
-        return false;
-    }
-    let outs = o.outs;
-    if !zeros_from(0, outs) {
-        return false;
-    }
-    let steps = o.steps;
-    if !blanks_from(0, steps) {
-        return false;
-    }
-    if o.variable != 0 {
-        return false;
-    }
-    o.field == 0
+    is_empty(o.kind) && is_tidy(o)
 }

@@ -71,16 +71,10 @@ pub fn names_apart(s: [bool; FLAGS], o: Operator) -> bool
     requires { Ready o }
     ensures { result ≡ all (λ v. not (has s v)) (names (view o)) }
 {
-    let k = o.kind;
-    let n = o.count as usize;
-    let steps = o.steps;
-    match k {
-        Kind::Empty => true,
-        Kind::Line => steps::steps_apart(s, steps, n),
-        Kind::Latest => !flag(s, o.variable),
-        Kind::Double => true,
-        Kind::Deal => !flag(s, o.variable),
-        Kind::Gather => !flag(s, o.variable),
+    match o.kind {
+        Kind::Line => steps::steps_apart(s, o.steps, o.count as usize),
+        Kind::Latest | Kind::Deal | Kind::Gather => !flag(s, o.variable),
+        Kind::Empty | Kind::Double => true,
     }
 }
 
@@ -89,16 +83,10 @@ pub fn names_flagged(s: [bool; FLAGS], o: Operator) -> [bool; FLAGS]
     requires { Ready o × (all (λ v. ltb v FLAGS) (names (view o)) ≡ true) }
     ensures { has result ≡ (λ k. member k (names (view o)) || has s k) }
 {
-    let k = o.kind;
-    let n = o.count as usize;
-    let steps = o.steps;
-    match k {
-        Kind::Empty => s,
-        Kind::Line => steps::steps_flagged(s, steps, n),
-        Kind::Latest => flagged(s, o.variable),
-        Kind::Double => s,
-        Kind::Deal => flagged(s, o.variable),
-        Kind::Gather => flagged(s, o.variable),
+    match o.kind {
+        Kind::Line => steps::steps_flagged(s, o.steps, o.count as usize),
+        Kind::Latest | Kind::Deal | Kind::Gather => flagged(s, o.variable),
+        Kind::Empty | Kind::Double => s,
     }
 }
 
@@ -107,14 +95,9 @@ pub fn cursor_apart(s: [bool; FLAGS], o: Operator) -> bool
     requires { Ready o }
     ensures { result ≡ all (λ v. not (has s v)) (cursors (view o)) }
 {
-    let k = o.kind;
-    match k {
-        Kind::Empty => true,
-        Kind::Line => true,
-        Kind::Latest => true,
-        Kind::Double => true,
-        Kind::Deal => !flag(s, o.variable),
-        Kind::Gather => !flag(s, o.variable),
+    match o.kind {
+        Kind::Deal | Kind::Gather => !flag(s, o.variable),
+        _ => true,
     }
 }
 
@@ -122,13 +105,8 @@ pub fn cursor_flagged(s: [bool; FLAGS], o: Operator) -> [bool; FLAGS]
     requires { Ready o × (all (λ v. ltb v FLAGS) (names (view o)) ≡ true) }
     ensures { has result ≡ (λ k. member k (cursors (view o)) || has s k) }
 {
-    let k = o.kind;
-    match k {
-        Kind::Empty => s,
-        Kind::Line => s,
-        Kind::Latest => s,
-        Kind::Double => s,
-        Kind::Deal => flagged(s, o.variable),
-        Kind::Gather => flagged(s, o.variable),
+    match o.kind {
+        Kind::Deal | Kind::Gather => flagged(s, o.variable),
+        _ => s,
     }
 }

@@ -10,7 +10,7 @@ pub const NO_VARIABLE: u8 = 255;
 
 pub const STEP_BYTES: usize = 12;
 
-#[derive(Clone, Copy)]
+#[derive(Clone, Copy, Debug, PartialEq, Eq)]
 pub enum Func {
     None,
     Keep,
@@ -20,7 +20,7 @@ pub enum Func {
     Stamp,
 }
 
-#[derive(Clone, Copy)]
+#[derive(Clone, Copy, Debug, PartialEq, Eq)]
 pub struct Step {
     pub func: Func,
     pub variable: u8,
@@ -108,69 +108,67 @@ pub const NO_STEP: Step = Step {
     high: 0,
 };
 
-pub fn code(f: Func) -> u8
-    ensures { result ≡ code_of f }
-{
-    match f {
-        Func::None => 0,
-        Func::Keep => 1,
-        Func::Add => 2,
-        Func::Copy => 3,
-        Func::Count => 4,
-        Func::Stamp => 5,
+// The number of a function in a record, and back: every other number is none.
+impl From<Func> for u8 {
+    ghost from_gives = { λ f n. n ≡ code_of f };
+
+    fn from(f: Func) -> u8 {
+        match f {
+            Func::None => 0,
+            Func::Keep => 1,
+            Func::Add => 2,
+            Func::Copy => 3,
+            Func::Count => 4,
+            Func::Stamp => 5,
+        }
     }
 }
 
-fn func_of(n: u8) -> Func
-    ensures { result ≡ func_of n }
-{
-    match n {
-        1 => Func::Keep,
-        2 => Func::Add,
-        3 => Func::Copy,
-        4 => Func::Count,
-        5 => Func::Stamp,
-        _ => Func::None,
+impl From<u8> for Func {
+    ghost from_gives = { λ n f. f ≡ func_of n };
+
+    #[tactic(auto, unfolding(crate::specs::Step::func_of))]
+    fn from(n: u8) -> Func {
+        match n {
+            1 => Func::Keep,
+            2 => Func::Add,
+            3 => Func::Copy,
+            4 => Func::Count,
+            5 => Func::Stamp,
+            _ => Func::None,
+        }
     }
 }
 
 pub fn known(f: Func) -> bool
     ensures { result ≡ known_func f }
 {
-    match f {
-        Func::None => false,
-        Func::Keep => true,
-        Func::Add => true,
-        Func::Copy => true,
-        Func::Count => true,
-        Func::Stamp => true,
-    }
+    f != Func::None
 }
 
 // The table's row of a function.
 pub fn row_of(f: Func) -> Row
     ensures { result ≡ row_of f }
 {
-    let i = code(f) as usize;
-    TABLE[i]
+    TABLE[u8::from(f) as usize]
 }
 
 // The variable is below v where one is taken, and NO_VARIABLE where none is.
+#[tactic(auto, unfolding(crate::specs::Step::step_variable))]
 pub fn variable_good(t: Step, v: u8) -> bool
     ensures { result ≡ step_variable v t }
 {
-    let f = t.func;
-    if !known(f) {
+    if !known(t.func) {
         return true;
     }
-    let w = row_of(f);
-    if w.variable {
+    if row_of(t.func).variable {
         t.variable < v
     } else {
         t.variable == NO_VARIABLE
     }
 }
 
+#[tactic(auto, unfolding(crate::specs::Step::field_place))]
 fn field_place(taken: bool, f: u8) -> bool
     ensures { result ≡ field_place taken f }
 {
@@ -181,70 +179,45 @@ fn field_place(taken: bool, f: u8) -> bool
     }
 }
 
+#[tactic(auto, unfolding(crate::specs::Step::unused_z))]
 fn unused(taken: bool, z: i32) -> bool
     ensures { result ≡ unused_z taken z }
 {
-    if taken { true } else { base_number::is_zero(z) }
+    taken || z == 0
 }
 
 // The function is known, its fields are below FIELDS, and what it does not take is 0.
+#[tactic(auto, unfolding(crate::specs::Step::step_places))]
 pub fn places_good(t: Step) -> bool
     ensures { result ≡ step_places t }
 {
-    let f = t.func;
-    if !known(f) {
-        return false;
-    }
-    let w = row_of(f);
-    if base_bounds::FIELDS <= t.p {
-        return false;
-    }
-    if !field_place(w.r, t.r) {
-        return false;
-    }
-    if !unused(w.low, t.low) {
-        return false;
-    }
-    unused(w.high, t.high)
+    let w = row_of(t.func);
+    known(t.func)
+        && t.p < base_bounds::FIELDS
+        && field_place(w.r, t.r)
+        && unused(w.low, t.low)
+        && unused(w.high, t.high)
 }
 
 // A place that holds no step.
+#[tactic(auto, unfolding(crate::specs::Step::blank))]
 pub fn is_blank(t: Step) -> bool
     ensures { result ≡ blank t }
 {
-    let f = t.func;
-    if code(f) != 0 {
-        return false;
-    }
-    if t.variable != 0 {
-        return false;
-    }
-    if t.p != 0 {
-        return false;
-    }
-    if t.r != 0 {
-        return false;
-    }
-    if !base_number::is_zero(t.low) {
-        return false;
-    }
-    base_number::is_zero(t.high)
+    t == NO_STEP
 }
 
 pub fn step_at(s: &[u8], at: usize) -> Step
     requires { at + STEP_BYTES ≤ length s.now }
     ensures { result ≡ step_of (drop at s.now) }
 {
-    let f = func_of(s[at]);
-    let low = base_number::int_at(s, at + 4);
-    let high = base_number::int_at(s, at + 8);
     Step {
-        func: f,
+        func: Func::from(s[at]),
         variable: s[at + 1],
         p: s[at + 2],
         r: s[at + 3],
-        low,
-        high,
+        low: base_number::int_at(s, at + 4),
+        high: base_number::int_at(s, at + 8),
     }
 }
 
@@ -252,13 +225,7 @@ pub fn put_step(s: &mut [u8], at: usize, t: Step)
     requires { at + STEP_BYTES ≤ length s.old }
     ensures { s.new ≡ sets s.old at (step_bytes t) }
 {
-    let f = t.func;
-    let low = t.low;
-    let high = t.high;
-    s[at] = code(f);
-    s[at + 1] = t.variable;
-    s[at + 2] = t.p;
-    s[at + 3] = t.r;
-    base_number::put_int(s, at + 4, low);
-    base_number::put_int(s, at + 8, high);
+    s[at..at + 4].copy_from_slice(&[u8::from(t.func), t.variable, t.p, t.r]);
+    base_number::put_int(s, at + 4, t.low);
+    base_number::put_int(s, at + 8, t.high);
 }

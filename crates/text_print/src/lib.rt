@@ -14,8 +14,8 @@ ghost use Rattle.text_form.specs.Form.{outputs_of, inputs_of, sheet_text};
 ghost use Rattle.text_print.specs.Names.{name_tokens, names_text, head_tokens, item_tokens, NAME_TEXT, HEAD_TEXT, ITEM_TEXT, SHEET_TEXT};
 ghost use Rattle.text_print.specs.Print.{Prints};
 
-use codec_write::Written;
-use sheet::{Answer, Sheet};
+use base_refusal::{Reason, Refusal};
+use sheet::Sheet;
 use sheet_operator::Operator;
 use text_lists::KeptNames;
 
@@ -107,42 +107,24 @@ pub fn put_text(s: &mut [u8], t: Sheet) -> usize
 }
 
 // The text of an accepted sheet where the buffer has room for it.
-fn print_good(t: Sheet, buffer: &mut [u8]) -> Written
+fn print_good(t: Sheet, buffer: &mut [u8]) -> Result<usize, Refusal>
     requires { check_of t ≡ accepted }
     ensures { Prints t buffer.old buffer.new result }
 {
     let mut scratch = [0u8; SHEET_TEXT];
     let n = put_text(&mut scratch, t);
     if buffer.len() < n {
-        return Written {
-            answer: Answer::RefusedAt {
-                number: 18,
-                spot: 0,
-            },
-            size: 0,
-        };
+        return Err(Reason::TooShort.at(0));
     }
     base_words::put_word(buffer, 0, &scratch[0..n]);
-    Written {
-        answer: Answer::Done,
-        size: n,
-    }
+    Ok(n)
 }
 
-// Any sheet in memory as text into a lent buffer: refusal 1 to 7, or 18 at record 0, with the buffer as it was; else its text.
-pub fn print(t: Sheet, buffer: &mut [u8]) -> Written
+// Any sheet in memory as text into a lent buffer: its text, and how many bytes it has; or refusal 1 to 7,
+// or 18 at record 0, with the buffer as it was.
+pub fn print(t: Sheet, buffer: &mut [u8]) -> Result<usize, Refusal>
     ensures { Prints t buffer.old buffer.new result }
 {
-    let a = sheet::check(t);
-    match a {
-        Answer::Done => print_good(t, buffer),
-        Answer::RefusedAt { number, spot } => Written {
-            answer: Answer::RefusedAt { number, spot },
-            size: 0,
-        },
-        Answer::Refused { number } => Written {
-            answer: Answer::Refused { number },
-            size: 0,
-        },
-    }
+    sheet::check(t)?;
+    print_good(t, buffer)
 }

@@ -1,6 +1,6 @@
 -- What the programs put out, by the input's length and by what reading it answers.
 -- Assumes nothing.
-use mathlib.Core.Path.{◌≡◌, ap, ◌∙◌, sym}
+use mathlib.Core.Path.{◌≡◌, refl, ap, ◌∙◌, sym}
 use mathlib.Core.Bool.{Bool, cond}
 use mathlib.Core.List.{List}
 use mathlib.Core.Option.{some, none}
@@ -8,17 +8,21 @@ use Prim.Native.Nat.{ℕ, ◌<◌, ◌≤◌}
 use native.Mathlib.Omega.{arith}
 use lib.ListN.{length}
 use borrow.Author.Tests.{le-leb, lt-leb}
+use Rattle.std.specs.Prelude.{Result, Ok, Err, Some, None}
+use Rattle.std.specs.Prelude as rattle
+use Rattle.std.specs.Option.{unwrap_or}
+use Rattle.std.specs.Result.{result_unwrap_or}
 use Rattle.base_bounds.specs.Bounds.{INPUT_BYTES}
+use Rattle.base_refusal.specs.declared.Reason.{Reason}
+use Rattle.base_refusal.specs.declared.Refusal.{Refusal}
+use Rattle.base_refusal.specs.Refusal.{number_of}
 use Rattle.bench_lines.specs.Lines.{refusal_line}
 use Rattle.sheet_format.proofs.Heads.{head_good_of_number}
-use Rattle.sheet.specs.declared.Answer.{Answer}
-use Rattle.sheet.specs.declared.Answer.TheVariants.{Done, RefusedAt, Refused}
 use Rattle.sheet.specs.declared.Sheet.{Sheet}
-use Rattle.sheet.specs.Answer.{Paper, paper, accepted}
-use Rattle.sheet.specs.Sheet.{view_sheet}
+use Rattle.sheet.specs.Answer.{Paper, paper, accepted, refused_for}
+use Rattle.sheet.specs.Sheet.{view_sheet, no_sheet}
 use Rattle.sheet.specs.Check.{check_of}
 use Rattle.sheet.proofs.Accepted.{facts_accepted}
-use Rattle.codec_read.specs.declared.ReadSheet.{ReadSheet}
 use Rattle.codec_read.specs.Read.{Reading, read_of, head_in}
 use Rattle.codec_read.specs.Fronts.{Reads}
 use Rattle.codec_read.proofs.Follow.{with_all}
@@ -28,8 +32,8 @@ use Rattle.codec_write.specs.Write.{sheet_bytes}
 use Rattle.text_form.specs.Reading.{nowhere, at_record, at_byte, TextPaper, spotted, read_text_of}
 use Rattle.text_form.proofs.Refusals.{Answers, accepts, at_byte_lem, at_record_lem, read_refusal_numbers}
 use Rattle.text_form.proofs.RoundTrip.{one_form_of_read}
-use Rattle.text_read.specs.declared.TextAnswer.{TextAnswer}
-use Rattle.text_read.specs.declared.ReadText.{ReadText}
+use Rattle.text_read.specs.declared.TextRefusal.{TextRefusal}
+use Rattle.text_read.specs.declared.TextRefusal.TheVariants as text
 use Rattle.text_read.specs.Answer.{text_paper}
 use Rattle.text_read.specs.Reads.{ReadsText}
 use Rattle.text_places.specs.Places.{place_of, outside_line}
@@ -56,28 +60,28 @@ read_accepted s h =
     ap (λ (r : Reading). check_of r.sheet) a.reads
     ∙ facts_accepted _ (accepted_memory (with_all (head_in s) a.ops) (rw a.size (head_good_of_number s a.head)) a.follow a.defined)
 
-module _ (s : List ℕ) (r : ReadSheet) (reads : Reads s r) where
-  answered : (a : Answer) → r.answer ≡ a → (read_of s).answer ≡ paper a
-  answered a e = sym reads.answer ∙ ap paper e
+pub to_text_accepted : (s : List ℕ) (t : Sheet) → Reads s (Ok t) → check_of t ≡ accepted
+to_text_accepted s t r = ap check_of r.sheet ∙ read_accepted s (sym r.answer)
 
-  pub to_text_accepted : r.answer ≡ Done → check_of r.sheet ≡ accepted
-  to_text_accepted e = ap check_of reads.sheet ∙ read_accepted s (answered Done e)
+-- a sheet's refusal is a line
+output_refused : (s xs : List ℕ) (reason : Reason) (spot : rattle.Option ℕ) →
+    output_of s (spotted (refused_for reason spot)) xs ≡ err (refusal_line (number_of reason) (unwrap_or spot 0))
+output_refused s xs reason (Some k) = refl
+output_refused s xs reason None = refl
 
-  module _ (short : length s ≤ INPUT_BYTES) where
-    to_text_of_lem : (a : Answer) → r.answer ≡ a → to_text_of s ≡ output_of s (spotted (paper a)) (text_line (view_sheet r.sheet))
-    unfolding to_text_of
-    to_text_of_lem a e =
-        limited_short s _ short ∙ ap (λ (p : Paper). output_of s (spotted p) (text_line (view_sheet (read_of s).sheet))) (answered a e)
-        ∙ ap (λ (t : Sheet). output_of s (spotted (paper a)) (text_line (view_sheet t))) (sym reads.sheet)
+module _ (s : List ℕ) (short : length s ≤ INPUT_BYTES) where
+  to_text_by : (r : Result Sheet Refusal) → Reads s r →
+      to_text_of s ≡ output_of s (spotted (paper r)) (text_line (view_sheet (result_unwrap_or r no_sheet)))
+  unfolding to_text_of
+  to_text_by r h =
+      limited_short s _ short ∙ ap (λ (p : Paper). output_of s (spotted p) (text_line (view_sheet (read_of s).sheet))) (sym h.answer)
+      ∙ ap (λ (t : Sheet). output_of s (spotted (paper r)) (text_line (view_sheet t))) (sym h.sheet)
 
-    pub to_text_done : r.answer ≡ Done → to_text_of s ≡ out (text_line (view_sheet r.sheet))
-    to_text_done = to_text_of_lem Done
+  pub to_text_done : (t : Sheet) → Reads s (Ok t) → to_text_of s ≡ out (text_line (view_sheet t))
+  to_text_done t h = to_text_by (Ok t) h
 
-    pub to_text_refused_at : (number spot : ℕ) → r.answer ≡ RefusedAt number spot → to_text_of s ≡ err (refusal_line number spot)
-    to_text_refused_at number spot = to_text_of_lem (RefusedAt number spot)
-
-    pub to_text_refused : (number : ℕ) → r.answer ≡ Refused number → to_text_of s ≡ err (refusal_line number 0)
-    to_text_refused number = to_text_of_lem (Refused number)
+  pub to_text_refused : (e : Refusal) → Reads s (Err e) → to_text_of s ≡ err (refusal_line (number_of e.reason) (unwrap_or e.spot 0))
+  to_text_refused e h = to_text_by (Err e) h ∙ output_refused s (text_line (view_sheet no_sheet)) e.reason e.spot
 
 -- ---- `to_bytes`
 
@@ -97,31 +101,26 @@ byte_said s _ accepts = omega arith
 byte_said s _ (at_byte_lem b h) = h
 byte_said s _ (at_record_lem number spot a b d) = omega arith
 
-module _ (s : List ℕ) (r : ReadText) (reads : ReadsText s r) where
-  told : (a : TextAnswer) → r.answer ≡ a → (read_text_of s).answer ≡ text_paper a
-  told a e = sym reads.answer ∙ ap text_paper e
+pub to_bytes_accepted : (s : List ℕ) (t : Sheet) → ReadsText s (Ok t) → check_of t ≡ accepted
+to_bytes_accepted s t r = ap check_of r.sheet ∙ (one_form_of_read s (sym r.answer)).checked
 
-  pub to_bytes_accepted : r.answer ≡ TextAnswer.Done → check_of r.sheet ≡ accepted
-  to_bytes_accepted e = ap check_of reads.sheet ∙ (one_form_of_read s (told TextAnswer.Done e)).checked
+pub to_bytes_within : (s : List ℕ) (at : ℕ) → ReadsText s (Err (text.Outside at)) → at ≤ length s
+to_bytes_within s at r = omega (arith, ap byte_of r.answer, byte_said s (read_text_of s).answer (read_refusal_numbers s))
 
-  pub to_bytes_within : (at : ℕ) → r.answer ≡ TextAnswer.Outside at → at ≤ length s
-  to_bytes_within at e = omega (arith, ap byte_of (told (TextAnswer.Outside at) e), byte_said s (read_text_of s).answer (read_refusal_numbers s))
+module _ (s : List ℕ) (short : length s ≤ INPUT_BYTES) where
+  to_bytes_by : (r : Result Sheet TextRefusal) → ReadsText s r →
+      to_bytes_of s ≡ output_of s (text_paper r) (sheet_bytes (view_sheet (result_unwrap_or r no_sheet)))
+  unfolding to_bytes_of
+  to_bytes_by r h =
+      limited_short s _ short ∙ ap (λ (p : TextPaper). output_of s p (sheet_bytes (view_sheet (read_text_of s).sheet))) (sym h.answer)
+      ∙ ap (λ (t : Sheet). output_of s (text_paper r) (sheet_bytes (view_sheet t))) (sym h.sheet)
 
-  module _ (short : length s ≤ INPUT_BYTES) where
-    to_bytes_of_lem : (a : TextAnswer) → r.answer ≡ a → to_bytes_of s ≡ output_of s (text_paper a) (sheet_bytes (view_sheet r.sheet))
-    unfolding to_bytes_of
-    to_bytes_of_lem a e =
-        limited_short s _ short ∙ ap (λ (p : TextPaper). output_of s p (sheet_bytes (view_sheet (read_text_of s).sheet))) (told a e)
-        ∙ ap (λ (t : Sheet). output_of s (text_paper a) (sheet_bytes (view_sheet t))) (sym reads.sheet)
+  pub to_bytes_done : (t : Sheet) → ReadsText s (Ok t) → to_bytes_of s ≡ out (sheet_bytes (view_sheet t))
+  to_bytes_done t h = to_bytes_by (Ok t) h
 
-    pub to_bytes_done : r.answer ≡ TextAnswer.Done → to_bytes_of s ≡ out (sheet_bytes (view_sheet r.sheet))
-    to_bytes_done = to_bytes_of_lem TextAnswer.Done
+  pub to_bytes_refused : (e : Refusal) → ReadsText s (Err (text.Sheet e)) →
+      to_bytes_of s ≡ err (refusal_line (number_of e.reason) (unwrap_or e.spot 0))
+  to_bytes_refused e h = to_bytes_by (Err (text.Sheet e)) h ∙ output_refused s (sheet_bytes (view_sheet no_sheet)) e.reason e.spot
 
-    pub to_bytes_refused_at : (number spot : ℕ) → r.answer ≡ TextAnswer.RefusedAt number spot → to_bytes_of s ≡ err (refusal_line number spot)
-    to_bytes_refused_at number spot = to_bytes_of_lem (TextAnswer.RefusedAt number spot)
-
-    pub to_bytes_refused : (number : ℕ) → r.answer ≡ TextAnswer.Refused number → to_bytes_of s ≡ err (refusal_line number 0)
-    to_bytes_refused number = to_bytes_of_lem (TextAnswer.Refused number)
-
-    pub to_bytes_outside : (at : ℕ) → r.answer ≡ TextAnswer.Outside at → to_bytes_of s ≡ err (outside_line 19 at (place_of s at))
-    to_bytes_outside at = to_bytes_of_lem (TextAnswer.Outside at)
+  pub to_bytes_outside : (at : ℕ) → ReadsText s (Err (text.Outside at)) → to_bytes_of s ≡ err (outside_line 19 at (place_of s at))
+  to_bytes_outside at h = to_bytes_by (Err (text.Outside at)) h

@@ -6,11 +6,14 @@ use Prim.Native.Nat.{ℕ, suc, ◌+◌, ◌*◌, ◌<◌, ◌≤◌}
 use native.Mathlib.Nat.{zero-add}
 use native.Mathlib.Omega.{arith}
 use lib.ListN.{length, set, length-append}
+use Rattle.std.specs.Prelude.{Result}
+use Rattle.std.specs.Result.{result_unwrap_or}
 use Rattle.base_lists.specs.Lists.{chain}
 use Rattle.base_lists.proofs.Sets.{sets_front}
 use Rattle.base_words.specs.Text.{PutsText}
 use Rattle.base_words.proofs.Putting.{puts_then, puts_byte}
 use Rattle.base_bounds.specs.Bounds.{OPERATORS}
+use Rattle.base_refusal.specs.declared.Refusal.{Refusal}
 use Rattle.sheet_operator.specs.Op.{Op}
 use Rattle.sheet_operator.proofs.ViewLaws.{Small}
 use Rattle.sheet_format.specs.Head.{HEAD_BYTES, head_bytes}
@@ -24,7 +27,6 @@ use Rattle.sheet.specs.Check.{check_of}
 use Rattle.sheet.proofs.Accepted.{accepted_facts, ranges_of_accepted}
 use Rattle.sheet.proofs.Placed.{nth, ops_many}
 use Rattle.codec_read.proofs.InMemory.{follow_view}
-use Rattle.codec_write.specs.declared.Written.{Written}
 use Rattle.codec_write.specs.Write.{sheet_bytes, Writing, Writes}
 use Rattle.codec_write.proofs.Writing.{write_of_room}
 use Rattle.text_parts.specs.Put.{PutsUpTo}
@@ -78,10 +80,10 @@ module _ (t : Sheet) (good : check_of t ≡ accepted) where
         (ranges_of_accepted t good).count,
       )
 
-  pub sends_bytes : {before after : List ℕ} (w : Written) → Writes t before after w → OUTPUT ≤ length before →
-      Sends (out (sheet_bytes (view_sheet t))) before after (record { size = w.size; failed = (out (sheet_bytes (view_sheet t))).failed })
-  sends_bytes {before = before} w h room =
+  pub sends_bytes : {before after : List ℕ} {r : Result ℕ Refusal} {n : ℕ} → Writes t before after r → n ≡ result_unwrap_or r 0 → OUTPUT ≤ length before →
+      Sends (out (sheet_bytes (view_sheet t))) before after (record { size = n; failed = (out (sheet_bytes (view_sheet t))).failed })
+  sends_bytes {before = before} h size room =
       let bytes = sheet_bytes (view_sheet t) in
       let e = write_of_room t before bytes good refl (omega (arith, bytes_most)) in
-      let n = h.size ∙ ap (λ (x : Writing). x.size) e in
+      let n = size ∙ h.size ∙ ap (λ (x : Writing). x.size) e in
       record { failed = refl; size = n; buffer = h.buffer ∙ ap (λ (x : Writing). x.buffer) e; fits = omega (arith, bytes_most) }

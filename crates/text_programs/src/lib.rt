@@ -2,7 +2,9 @@
 #![tactic(auto)]
 
 ghost use Rattle.std.specs.Prelude.{◌≤◌, ◌≡◌, length};
+ghost use Rattle.std.specs.Option.{unwrap_or};
 ghost use Rattle.base_bounds.specs.Bounds.{INPUT_BYTES};
+ghost use Rattle.base_refusal.specs.Refusal.{number_of};
 ghost use Rattle.bench_lines.specs.Lines.{refusal_line};
 ghost use Rattle.sheet.specs.Answer.{accepted};
 ghost use Rattle.sheet.specs.Sheet.{view_sheet};
@@ -12,8 +14,9 @@ ghost use Rattle.codec_write.specs.Write.{sheet_bytes};
 ghost use Rattle.text_programs.specs.Output.{out, err, text_line, to_text_of, to_bytes_of};
 ghost use Rattle.text_programs.specs.Sends.{OUTPUT, Sends};
 
-use sheet::{Answer, Sheet};
-use text_read::TextAnswer;
+use base_refusal::{Reason, Refusal};
+use sheet::Sheet;
+use text_read::TextRefusal;
 
 // No program takes a longer input.
 const INPUT: usize = base_bounds::INPUT_BYTES;
@@ -32,11 +35,11 @@ pub struct Sent {
 }
 
 // A refusal at a record.
-fn refused(buffer: &mut [u8], number: u8, spot: u8) -> Sent
+fn refused(buffer: &mut [u8], e: Refusal) -> Sent
     requires { OUTPUT ≤ length buffer.old }
-    ensures { Sends (err (refusal_line number spot)) buffer.old buffer.new result }
+    ensures { Sends (err (refusal_line (number_of e.reason) (unwrap_or e.spot 0))) buffer.old buffer.new result }
 {
-    let n = bench_lines::put_refusal(buffer, 0, number, spot as usize);
+    let n = bench_lines::put_refusal(buffer, 0, e);
     Sent {
         size: n,
         failed: true,
@@ -71,9 +74,9 @@ fn sheet_bytes(t: Sheet, buffer: &mut [u8]) -> Sent
     requires { (check_of t ≡ accepted) × (OUTPUT ≤ length buffer.old) }
     ensures { Sends (out (sheet_bytes (view_sheet t))) buffer.old buffer.new result }
 {
-    let w = codec_write::write(t, buffer);
+    let size = codec_write::write(t, buffer).unwrap_or(0);
     Sent {
-        size: w.size,
+        size,
         failed: false,
     }
 }
@@ -84,15 +87,11 @@ pub fn to_text(input: &[u8], buffer: &mut [u8]) -> Sent
     ensures { Sends (to_text_of input.now) buffer.old buffer.new result }
 {
     if INPUT < input.len() {
-        return refused(buffer, 18, 0);
+        return refused(buffer, Reason::TooShort.at(0));
     }
-    let r = codec_read::read(input);
-    let a = r.answer;
-    let t = r.sheet;
-    match a {
-        Answer::Done => sheet_text(t, buffer),
-        Answer::RefusedAt { number, spot } => refused(buffer, number, spot),
-        Answer::Refused { number } => refused(buffer, number, 0),
+    match codec_read::read(input) {
+        Ok(t) => sheet_text(t, buffer),
+        Err(e) => refused(buffer, e),
     }
 }
 
@@ -102,15 +101,11 @@ pub fn to_bytes(input: &[u8], buffer: &mut [u8]) -> Sent
     ensures { Sends (to_bytes_of input.now) buffer.old buffer.new result }
 {
     if INPUT < input.len() {
-        return refused(buffer, 18, 0);
+        return refused(buffer, Reason::TooShort.at(0));
     }
-    let r = text_read::read(input);
-    let a = r.answer;
-    let t = r.sheet;
-    match a {
-        TextAnswer::Done => sheet_bytes(t, buffer),
-        TextAnswer::RefusedAt { number, spot } => refused(buffer, number, spot),
-        TextAnswer::Refused { number } => refused(buffer, number, 0),
-        TextAnswer::Outside { at } => outside(input, at, buffer),
+    match text_read::read(input) {
+        Ok(t) => sheet_bytes(t, buffer),
+        Err(TextRefusal::Sheet(e)) => refused(buffer, e),
+        Err(TextRefusal::Outside { at }) => outside(input, at, buffer),
     }
 }

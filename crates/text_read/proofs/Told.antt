@@ -4,14 +4,16 @@ use Prim.Native.Nat.{ℕ, ◌-◌, ◌<◌, ◌≤◌}
 use mathlib.Core.Path.{◌≡◌, refl, ap, ◌∙◌, sym, subst}
 use mathlib.Core.Bool.{Bool, true, false, cond}
 use mathlib.Core.List.{List, []}
-use mathlib.Core.Option.{Option, some, none}
+use mathlib.Core.Option.{some, none}
 use native.Mathlib.Omega.{arith}
 use lib.ListN.{length, drop, length-drop}
+use Rattle.std.specs.Prelude.{Result}
+use Rattle.std.specs.Result.{result_unwrap_or}
 use Rattle.base_lists.specs.Lists.{build}
 use Rattle.base_lists.proofs.Build.{never}
 use Rattle.sheet_operator.specs.Op.{Abstract}
 use Rattle.sheet.specs.declared.Sheet.{Sheet}
-use Rattle.sheet.specs.Answer.{Paper, accepted, refused, is_accepted}
+use Rattle.sheet.specs.Answer.{Paper, accepted, is_accepted}
 use Rattle.sheet.specs.Sheet.{view_sheet, memory_sheet, no_sheet}
 use Rattle.sheet.specs.Check.{check_of}
 use Rattle.sheet.proofs.Accepted.{ranges_of_accepted}
@@ -31,7 +33,7 @@ use Rattle.text_sheet.specs.Built.{highest_in, built}
 use Rattle.text_sheet.proofs.BuiltLaws.{of_text, highest_small, check_built, built_is}
 use Rattle.text_own.specs.Own.{same_kept}
 use Rattle.text_own.proofs.Own.{same_kept_lem, outputs_short, inputs_short}
-use Rattle.text_read.specs.declared.ReadText.{ReadText}
+use Rattle.text_read.specs.declared.TextRefusal.{TextRefusal}
 use Rattle.text_read.specs.Answer.{text_paper}
 use Rattle.text_read.specs.Reads.{kept_answer, ListsRead, ReadsText}
 use Rattle.text_read.proofs.Came.{after, Came, came_lost, came_got, came}
@@ -56,8 +58,9 @@ module _ (s : List ℕ) (t : Tree) (reads : text s ≡ got t []) (g : GoodTree t
       ap (λ (q : Paper). cond (is_accepted q) (lists_answer s t (tree_of (sheet_of t))) (spotted q)) (sym (check_built t g) ∙ e)
 
   -- its sheet is refused
-  tree_refused : (x : ℕ × Option ℕ) → check_of (of_text t g) ≡ some x → read_text_of s ≡ record { answer = spotted (some x); sheet = no_sheet }
-  tree_refused x e =
+  tree_refused : (p : Paper) → check_of (of_text t g) ≡ p → is_accepted p ≡ false → read_text_of s ≡ record { answer = spotted p; sheet = no_sheet }
+  tree_refused none e h = never (sym h)
+  tree_refused (some x) e h =
       told ∙ ap (λ (p : TextPaper). record { answer = p; sheet = cond (is_read p) (memory_sheet (sheet_of t)) no_sheet }) (answer_of (some x) e)
 
   -- or accepted: then its lists decide
@@ -97,7 +100,7 @@ module _ (s : List ℕ) (t : Tree) (reads : text s ≡ got t []) (g : GoodTree t
 -- ---- what the answer is by the check of the sheet that was built
 
 pub record Told (s : List ℕ) (h : HeadFound) (b : Sheet) : Type 0 where
-  pub refused : (x : ℕ × Option ℕ) → check_of b ≡ some x → read_text_of s ≡ record { answer = spotted (some x); sheet = no_sheet }
+  pub refused : (p : Paper) → check_of b ≡ p → is_accepted p ≡ false → read_text_of s ≡ record { answer = spotted p; sheet = no_sheet }
   pub lists : check_of b ≡ accepted → read_text_of s ≡ record { answer = kept_answer h b; sheet = cond (is_read (kept_answer h b)) b no_sheet }
 
 module _ (s : List ℕ) (h : HeadFound) (f : OperatorsFound) (a : Heads s h) (g : GoesOperators s (after h) f) where
@@ -133,14 +136,14 @@ module _ (s : List ℕ) (h : HeadFound) (f : OperatorsFound) (a : Heads s h) (g 
 
 -- ---- the functions' answers
 
-pub lists_told : (h : HeadFound) (t : Sheet) (r : ReadText) (x y : Bool) → same_kept h.outputs (kept_of (outputs_of (view_sheet t))) ≡ x →
+pub lists_told : (h : HeadFound) (t : Sheet) (r : Result Sheet TextRefusal) (x y : Bool) → same_kept h.outputs (kept_of (outputs_of (view_sheet t))) ≡ x →
     same_kept h.inputs (kept_of (build t.inputs (λ (q : ℕ). q))) ≡ y →
-    text_paper r.answer ≡ cond x (cond y none (outside h.inputs_at)) (outside h.outputs_at) →
-    r.sheet ≡ cond (is_read (cond x (cond y none (outside h.inputs_at)) (outside h.outputs_at))) t no_sheet → ListsRead h t r
+    text_paper r ≡ cond x (cond y none (outside h.inputs_at)) (outside h.outputs_at) →
+    result_unwrap_or r no_sheet ≡ cond (is_read (cond x (cond y none (outside h.inputs_at)) (outside h.outputs_at))) t no_sheet → ListsRead h t r
 lists_told h t r x y e d a b = record { answer = rw (e, d) a; sheet = rw (e, d) b }
 
-pub reads_told : (s : List ℕ) (r : ReadText) (p : TextPaper) (b : Sheet) → read_text_of s ≡ record { answer = p; sheet = b } → text_paper r.answer ≡ p →
-    r.sheet ≡ b → ReadsText s r
+pub reads_told : (s : List ℕ) (r : Result Sheet TextRefusal) (p : TextPaper) (b : Sheet) → read_text_of s ≡ record { answer = p; sheet = b } → text_paper r ≡ p →
+    result_unwrap_or r no_sheet ≡ b → ReadsText s r
 reads_told s r p b e a c =
     record { answer = a ∙ sym (ap (λ (x : TextReading). x.answer) e); sheet = c ∙ sym (ap (λ (x : TextReading). x.sheet) e) }
 

@@ -1,11 +1,13 @@
 -- What reading a text answers, in the paper's words.
-use Rattle.std.proofs.Math.Option.{some, none}
-use Rattle.text_form.specs.Reading.{nowhere, at_record, TextPaper, outside}
-use Rattle.text_read.specs.declared.TextAnswer.{TextAnswer}
-use Rattle.text_read.specs.declared.TextAnswer.TheVariants.{Done, RefusedAt, Refused, Outside}
+use Rattle.std.specs.Prelude.{Result, Ok, Err}
+use Rattle.std.proofs.Math.Option.{none}
+use Rattle.sheet.specs.declared.Sheet.{Sheet}
+use Rattle.sheet.specs.Answer.{refused_for}
+use Rattle.text_form.specs.Reading.{TextPaper, outside, spotted}
+use Rattle.text_read.specs.declared.TextRefusal.{TextRefusal}
+use Rattle.text_read.specs.declared.TextRefusal.TheVariants as text
 
-abbrev pub text_paper : TextAnswer → TextPaper
-text_paper Done = none
-text_paper (RefusedAt number spot) = some (number, at_record spot)
-text_paper (Refused number) = some (number, nowhere)
-text_paper (Outside at) = outside at
+abbrev pub text_paper : Result Sheet TextRefusal → TextPaper
+text_paper (Ok t) = none
+text_paper (Err (text.Sheet e)) = spotted (refused_for e.reason e.spot)
+text_paper (Err (text.Outside at)) = outside at

@@ -1,5 +1,6 @@
 -- What the functions of reading a text answer, against the definitions.
-use Rattle.std.specs.Prelude.{◌≡◌, cond, List, ℕ}
+use Rattle.std.specs.Prelude.{◌≡◌, cond, List, ℕ, Result}
+use Rattle.std.specs.Result.{result_unwrap_or}
 use Rattle.std.proofs.Math.Option.{none}
 use Rattle.base_lists.specs.Lists.{build}
 use Rattle.sheet.specs.declared.Sheet.{Sheet}
@@ -9,7 +10,7 @@ use Rattle.text_form.specs.Reading.{TextPaper, outside, is_read, read_text_of}
 use Rattle.text_lists.specs.Names.{kept_of}
 use Rattle.text_own.specs.Own.{same_kept}
 use Rattle.text_tree.specs.declared.HeadFound.{HeadFound}
-use Rattle.text_read.specs.declared.ReadText.{ReadText}
+use Rattle.text_read.specs.declared.TextRefusal.{TextRefusal}
 use Rattle.text_read.specs.Answer.{text_paper}
 
 -- the first list that is not the sheet's own, of what is kept
@@ -19,10 +20,10 @@ kept_answer h t =
     (cond (same_kept h.inputs (kept_of (build t.inputs (λ (q : ℕ). q)))) none (outside h.inputs_at))
     (outside h.outputs_at)
 
-pub record ListsRead (h : HeadFound) (t : Sheet) (r : ReadText) : Type 0 where
-  pub answer : text_paper r.answer ≡ kept_answer h t
-  pub sheet : r.sheet ≡ cond (is_read (kept_answer h t)) t no_sheet
+pub record ListsRead (h : HeadFound) (t : Sheet) (r : Result Sheet TextRefusal) : Type 0 where
+  pub answer : text_paper r ≡ kept_answer h t
+  pub sheet : result_unwrap_or r no_sheet ≡ cond (is_read (kept_answer h t)) t no_sheet
 
-pub record ReadsText (s : List ℕ) (r : ReadText) : Type 0 where
-  pub answer : text_paper r.answer ≡ (read_text_of s).answer
-  pub sheet : r.sheet ≡ (read_text_of s).sheet
+pub record ReadsText (s : List ℕ) (r : Result Sheet TextRefusal) : Type 0 where
+  pub answer : text_paper r ≡ (read_text_of s).answer
+  pub sheet : result_unwrap_or r no_sheet ≡ (read_text_of s).sheet

@@ -1,17 +1,16 @@
-use Rattle.std.proofs.Common.{add-one, arith, length-set}
-use native.Mathlib.Numerals.{add-two, add-three}
+use Rattle.std.proofs.Common.{ℕ, ◌≡◌, ◌+◌, ◌-◌, [], ◌∷◌, ◌/◌, ◌%◌, length, ap, ◌∙◌, arith}
+use lib.Seq.{sets}
+use Rattle.base_lists.proofs.Sets.{put_part}
 use Rattle.base_number.specs.Number.{bits_bytes}
 use Rattle.base_number.proofs.put_bits.Goals as goal
 
-pub bounds-s-at-2 : goal.bounds-s-at-2
-bounds-s-at-2 c = simp length-set (omega arith)
-
-pub bounds-s-at-3 : goal.bounds-s-at-3
-bounds-s-at-3 c = simp length-set (omega arith)
-
-pub bounds-s-at-4 : goal.bounds-s-at-4
-bounds-s-at-4 c = simp length-set (omega arith)
-
 pub returns : goal.returns
 unfolding bits_bytes
-returns c = simp (add-one, add-two, add-three)
+returns c =
+    let a = c.args in
+    let part = c.copy_from_slice.new.self in
+    let last : a.n / 16777216 % 256 ≡ a.n / 16777216 = omega (arith, c.ranges.n) in
+    let e : part ≡ bits_bytes a.n =
+    c.copy_from_slice.ensures.after ∙ c.to_le_bytes.ensures ∙ ap (λ (k : ℕ). a.n % 256 ∷ a.n / 256 % 256 ∷ a.n / 65536 % 256 ∷ k ∷ []) last in
+    let n : length part ≡ 4 = ap length e in
+    put_part a.at (a.at + 4 - a.at) a.s.now part (omega arith) (omega arith) ∙ ap (sets a.s.now a.at) e

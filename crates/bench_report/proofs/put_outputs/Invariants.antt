@@ -1,6 +1,5 @@
 -- `bench_report::put_outputs` meets its contract: the lines of the first q queues are put.
 -- Assumes nothing.
-use Prim.Native.Nat.{◌-◌}
 use Rattle.bench_report.proofs.Outputs.{Printing}
 use Rattle.bench_report.proofs.put_outputs.Given as goal
 

@@ -1,8 +1,9 @@
 -- `bench_report::put_trial` meets its contract: a refusal's line, or the lines of an input that is not refused.
 -- Assumes nothing.
-use Rattle.bench_report.proofs.Printing.{refusal_printed}
+use native.Mathlib.Omega.{arith}
+use Rattle.bench_report.specs.Print.{printed}
 use Rattle.bench_report.proofs.put_trial.Goals as goal
 
-pub returns-then-number-ne0 : goal.returns-then-number-ne0
-returns-then-number-ne0 c =
-    refusal_printed c.args.r c.args.store.now c.if-number-ne0.true c.put_refusal.ensures
+pub returns-in-Err : goal.returns-in-Err
+unfolding printed
+returns-in-Err c = rw c.in-Err.is (c.put_refusal.ensures.0, omega arith)

@@ -9,10 +9,10 @@ use borrow.Author.Rules.{rules}
 use Rattle.bench_report.proofs.report.Goals as goal
 
 pub returns-then-buffer-lt-TEXT : goal.returns-then-buffer-lt-TEXT
-returns-then-buffer-lt-TEXT c = report_short c.args.input.now c.args.buffer.now c.if-buffer-lt-TEXT.true
+returns-then-buffer-lt-TEXT c = rw c.at.ensures (report_short c.args.input.now c.args.buffer.now c.if-buffer-lt-TEXT.true)
 
-pub put_trial-n-requires : goal.put_trial-n-requires
-put_trial-n-requires c =
+pub put_trial-requires : goal.put_trial-requires
+put_trial-requires c =
     let i = c.args.input.now in
     let w = trial_within i (λ j. (c.type_inv.input j).fits) in
     (search rules, shows (trial_of i) _ c.try_input-r.result _ c.try_input-r.ensures w)
@@ -21,5 +21,5 @@ pub returns : goal.returns
 returns c =
     let i = c.args.input.now in
     let w = trial_within i (λ j. (c.type_inv.input j).fits) in
-    report_done i c.args.buffer.now _ c.put_trial-n.result _ (omega arith)
-    (tells (trial_of i) _ c.try_input-r.result _ c.try_input-r.ensures w) c.put_trial-n.ensures
+    report_done i c.args.buffer.now _ c.put_trial.result _ (omega arith)
+    (tells (trial_of i) _ c.try_input-r.result _ c.try_input-r.ensures w) c.put_trial.ensures

@@ -23,8 +23,8 @@ loop-t-smaller c =
 
 pub loop-t-preserved : goal.loop-t-preserved
 loop-t-preserved c =
-    feeding_goes_on c.loop-t.invariant (sym c.is_feed.ensures ∙ c.loop-t-test.true) _ _ refl
-    c.item_at-x.ensures c.feed_known-f.ensures
+    rw c.unwrap_or-st.ensures
+    (feeding_goes_on c.loop-t.invariant (sym c.is_feed.ensures ∙ c.loop-t-test.true) _ _ refl c.item_at-x.ensures c.feed_known.ensures)
 
 pub returns : goal.returns
 returns c = feeding_ends c.loop-t.invariant (sym c.is_feed.ensures ∙ c.loop-t-test.false)

@@ -1,6 +1,5 @@
 -- `codec_read::read_operators` meets its contract: between two records the reader holds what `ReadTo` says.
 -- Assumes nothing.
-use Prim.Native.Nat.{◌-◌}
 use Rattle.codec_read.proofs.Reading.{ReadTo}
 use Rattle.codec_read.proofs.read_operators.Given as goal
 

@@ -1,7 +1,7 @@
 -- `codec_write::bytes_length` meets its contract: the sum is the length of the bytes of the head and of the operators passed.
 -- Assumes nothing.
 use mathlib.Core.Path.{◌≡◌}
-use Prim.Native.Nat.{◌+◌, ◌*◌, ◌-◌, ◌≤◌}
+use Prim.Native.Nat.{◌+◌, ◌*◌, ◌≤◌}
 use lib.ListN.{length}
 use Rattle.sheet_format.specs.Record.{RECORD_MOST}
 use Rattle.sheet_format.specs.Head.{HEAD_BYTES}

@@ -1,7 +1,7 @@
 -- `codec_write::put_sheet` meets its contract: the buffer has the bytes of the head and of the operators passed at its front.
 -- Assumes nothing.
 use mathlib.Core.Path.{◌≡◌}
-use Prim.Native.Nat.{◌+◌, ◌*◌, ◌-◌, ◌≤◌}
+use Prim.Native.Nat.{◌+◌, ◌*◌, ◌≤◌}
 use lib.ListN.{length}
 use lib.Seq.{sets}
 use Rattle.base_lists.specs.Lists.{chain}

@@ -1,15 +1,10 @@
 -- `codec_write::write` meets its contract: the check decides, and a sheet that it refuses leaves the buffer as it was.
 -- Assumes nothing.
-use mathlib.Core.Path.{refl}
+use Rattle.std.proofs.lemmas.Result.{err_from_is_err_and}
 use Rattle.codec_write.proofs.Writing.{writes_refused}
 use Rattle.codec_write.proofs.write.Goals as goal
 
-pub returns-in-RefusedAt : goal.returns-in-RefusedAt
-returns-in-RefusedAt c =
-    let k = c.check-a in
-    writes_refused _ _ k.result _ c.in-RefusedAt.is k.ensures refl
-
-pub returns-in-Refused : goal.returns-in-Refused
-returns-in-Refused c =
-    let k = c.check-a in
-    writes_refused _ _ k.result _ c.in-Refused.is k.ensures refl
+pub returns-in_err-check : goal.returns-in_err-check
+returns-in_err-check c =
+    let r = err_from_is_err_and c.from_residual.result c.from_residual.ensures.1 in
+    rw (r.1, r.2) (writes_refused _ _ _ c.in_err-check.ensures)

@@ -5,7 +5,7 @@ use Rattle.codec_write.proofs.Writing.{writes_short, writes_done}
 use Rattle.codec_write.proofs.write_good.Goals as goal
 
 pub returns-then-buffer-n : goal.returns-then-buffer-n
-returns-then-buffer-n c = writes_short _ _ _ c.requires c.bytes_length-n.ensures c.if-buffer-n.true
+returns-then-buffer-n c = rw c.at.ensures (writes_short _ _ _ c.requires c.bytes_length-n.ensures c.if-buffer-n.true)
 
 pub returns : goal.returns
 returns c =

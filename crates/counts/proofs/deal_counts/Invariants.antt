@@ -1,6 +1,6 @@
 -- `counts::deal_counts` meets its contract: what is left to deal from here is what was to deal at the start.
 use mathlib.Core.Path.{◌≡◌}
-use Prim.Native.Nat.{ℕ, ◌-◌, ◌≤◌}
+use Prim.Native.Nat.{ℕ, ◌≤◌}
 use lib.ListN.{get_or}
 use Rattle.base_lists.proofs.Rest.{rest}
 use Rattle.sheet_operator.specs.Memory.{ways}

@@ -1,7 +1,7 @@
 -- `counts::feed_good` meets its contract: every fed number passed was good.
 use mathlib.Core.Path.{◌≡◌}
 use mathlib.Core.Bool.{true, cond}
-use Prim.Native.Nat.{ℕ, ◌-◌, ◌≤◌}
+use Prim.Native.Nat.{ℕ, ◌≤◌}
 use lib.Dec.{ltb, leb, eqb}
 use lib.ListN.{get_or}
 use Rattle.base_lists.specs.Lists.{build, all}

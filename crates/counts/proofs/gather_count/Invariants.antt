@@ -1,7 +1,7 @@
 -- `counts::gather_count` meets its contract: the sum of the inputs passed, each at most 2 ^ 60.
 use mathlib.Core.Path.{◌≡◌}
 use mathlib.Core.List.{map}
-use Prim.Native.Nat.{ℕ, ◌*◌, ◌-◌, ◌≤◌, ◌^◌}
+use Prim.Native.Nat.{ℕ, ◌*◌, ◌≤◌, ◌^◌}
 use lib.ListN.{get_or}
 use Rattle.base_lists.specs.Lists.{sum}
 use Rattle.sheet_operator.specs.Memory.{ways}

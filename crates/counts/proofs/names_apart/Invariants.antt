@@ -1,6 +1,6 @@
 -- `counts::names_apart` meets its contract: what is left to test from here, after the names kept as flags, is what was to test at the start.
 use mathlib.Core.Path.{◌≡◌}
-use Prim.Native.Nat.{ℕ, ◌-◌, ◌≤◌}
+use Prim.Native.Nat.{ℕ, ◌≤◌}
 use Rattle.base_lists.specs.Lists.{has}
 use Rattle.base_lists.proofs.Rest.{rest}
 use Rattle.sheet_operator.specs.Memory.{view}

@@ -1,7 +1,7 @@
 -- `counts::sheet_counts` meets its contract: what is left to count from here is what was to count at the start,
 -- and no count is above the bound of the operators passed.
 use mathlib.Core.Path.{◌≡◌}
-use Prim.Native.Nat.{ℕ, ◌-◌, ◌≤◌}
+use Prim.Native.Nat.{ℕ, ◌≤◌}
 use Rattle.base_lists.proofs.Rest.{rest}
 use Rattle.sheet_operator.specs.Memory.{view}
 use Rattle.sheet.specs.Sheet.{op_at, view_sheet}

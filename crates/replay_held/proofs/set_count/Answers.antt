@@ -4,7 +4,6 @@ use mathlib.Core.Path.{◌≡◌, refl, sym, ap, ◌∙◌}
 use Prim.Native.Nat.{ℕ, ◌<◌}
 use native.Mathlib.Omega.{arith}
 use lib.ListN.{length, get_or}
-use borrow.Author.Tests.{not-true, not-false}
 use Rattle.base_bounds.specs.Bounds.{QUEUES}
 use Rattle.replay_held.specs.Held.{with_count}
 use Rattle.replay_held.proofs.Named.{named}

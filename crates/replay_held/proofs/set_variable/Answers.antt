@@ -4,8 +4,6 @@ use mathlib.Core.Path.{◌≡◌, refl, sym, ◌∙◌}
 use Prim.Native.Nat.{◌<◌}
 use native.Mathlib.Omega.{arith}
 use lib.ListN.{length, get_or}
-use borrow.Author.Rules.{rules}
-use borrow.Author.Tests.{not-true, not-false}
 use Rattle.base_bounds.specs.Bounds.{VARIABLES}
 use Rattle.run_effect.proofs.Back.{back}
 use Rattle.replay_held.proofs.Named.{named}

@@ -1,7 +1,7 @@
 -- `rewrite_fuse::all_fallen` meets its contract: the places hold the numbers passed, each fallen.
 use mathlib.Core.Path.{◌≡◌}
 use mathlib.Core.List.{List}
-use Prim.Native.Nat.{ℕ, ◌-◌, ◌≤◌}
+use Prim.Native.Nat.{ℕ, ◌≤◌}
 use Rattle.sheet_operator.specs.Memory.{PLACES}
 use Rattle.base_lists.specs.Lists.{build, pad}
 use Rattle.rewrite_rules.specs.Rewrite.{fallen}

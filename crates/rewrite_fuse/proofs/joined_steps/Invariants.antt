@@ -1,7 +1,7 @@
 -- `rewrite_fuse::joined_steps` meets its contract: the places hold the first steps and those of the second line passed.
 use mathlib.Core.Path.{◌≡◌}
 use mathlib.Core.List.{List, ◌++◌}
-use Prim.Native.Nat.{ℕ, ◌-◌, ◌≤◌}
+use Prim.Native.Nat.{ℕ, ◌≤◌}
 use Rattle.base_lists.specs.Lists.{pad}
 use Rattle.sheet_step.specs.Step.{no_step}
 use Rattle.sheet_step.specs.declared.Step.{Step}

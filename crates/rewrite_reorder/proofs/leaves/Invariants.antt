@@ -1,7 +1,7 @@
 -- `rewrite_reorder::leaves` meets its contract: the loop keeps that no step of p touches a field that the steps of o passed write.
 use mathlib.Core.Path.{◌≡◌}
 use mathlib.Core.Bool.{Bool, true}
-use Prim.Native.Nat.{◌≤◌, ◌-◌}
+use Prim.Native.Nat.{◌≤◌}
 use Rattle.base_lists.specs.Lists.{all}
 use Rattle.sheet_operator.specs.Memory.{steps_in}
 use Rattle.rewrite_reorder.specs.Working.{step_leaves}

@@ -1,7 +1,7 @@
 -- `rewrite_reorder::steps_left` meets its contract: the loop keeps that every step passed leaves the fields that s writes.
 use mathlib.Core.Path.{◌≡◌}
 use mathlib.Core.Bool.{true}
-use Prim.Native.Nat.{◌≤◌, ◌-◌}
+use Prim.Native.Nat.{◌≤◌}
 use Rattle.base_lists.specs.Lists.{all}
 use Rattle.sheet_operator.specs.Memory.{steps_in}
 use Rattle.rewrite_reorder.specs.Working.{step_leaves}

@@ -1,7 +1,7 @@
 -- `rewrite_reorder::touches_none` meets its contract: the loop keeps that no step passed takes a variable.
 use mathlib.Core.Path.{◌≡◌}
 use mathlib.Core.Bool.{true}
-use Prim.Native.Nat.{◌≤◌, ◌-◌}
+use Prim.Native.Nat.{◌≤◌}
 use Rattle.base_lists.specs.Lists.{all}
 use Rattle.sheet_operator.specs.Memory.{steps_in}
 use Rattle.rewrite_rules.specs.Rewrite.{touches_none}

@@ -1,7 +1,7 @@
 -- `rewrite_split::numbers_from` meets its contract: the places hold the numbers so far, and then 0.
 use mathlib.Core.Path.{◌≡◌}
 use mathlib.Core.List.{List}
-use Prim.Native.Nat.{ℕ, ◌+◌, ◌-◌, ◌≤◌}
+use Prim.Native.Nat.{ℕ, ◌+◌, ◌≤◌}
 use Rattle.base_lists.specs.Lists.{build, pad}
 use Rattle.sheet_operator.specs.Memory.{PLACES}
 use Rattle.rewrite_split.proofs.numbers_from.Given as goal

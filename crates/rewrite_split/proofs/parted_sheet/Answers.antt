@@ -4,5 +4,4 @@ use Rattle.rewrite_split.proofs.Parting.{parted_made}
 use Rattle.rewrite_split.proofs.parted_sheet.Goals as goal
 
 pub returns : goal.returns
-returns c =
-    parted_made c.args.t c.args.i c.args.k c.requires _ _ refl c.parts-operators.ensures
+returns c = parted_made c.args.t c.args.i c.args.k c.requires _ _ refl c.parts.ensures

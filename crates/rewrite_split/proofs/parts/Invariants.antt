@@ -1,7 +1,6 @@
 -- `rewrite_split::parts` meets its contract: the places below m hold what they are to hold, the others what they held.
 use mathlib.Core.Path.{◌≡◌}
-use Prim.Native.Nat.{◌-◌, ◌≤◌}
-use Rattle.base_bounds.specs.Bounds.{OPERATORS}
+use Prim.Native.Nat.{◌≤◌}
 use Rattle.sheet.specs.Sheet.{HeldSheet}
 use Rattle.rewrite_split.specs.Working.{Splits}
 use Rattle.rewrite_split.proofs.Parting.{filled}

@@ -9,9 +9,6 @@ returns-then-j-eq0 c =
     c.dealing.ensures
     ∙ piece_first c.args.o c.args.queues c.args.variables c.args.k c.args.j (omega arith) (c.requires.1 (omega arith))
 
-pub copied_line-requires : goal.copied_line-requires
-copied_line-requires c = c.requires.1 (omega arith)
-
 pub returns-then-j-ways : goal.returns-then-j-ways
 returns-then-j-ways c =
     c.copied_line.ensures
@@ -24,5 +21,4 @@ returns-then-j-ways-2 c =
     ∙ piece_last c.args.o c.args.queues c.args.variables c.args.k c.args.j (omega arith) (c.requires.1 (omega arith))
 
 pub returns : goal.returns
-returns c =
-    piece_past c.args.o c.args.queues c.args.variables c.args.k c.args.j (omega arith)
+returns c = piece_past c.args.o c.args.queues c.args.variables c.args.k c.args.j (omega arith)

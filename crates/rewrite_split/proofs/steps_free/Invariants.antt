@@ -1,7 +1,7 @@
 -- `rewrite_split::steps_free` meets its contract: the loop keeps that every step passed is one that a split may copy.
 use mathlib.Core.Path.{◌≡◌}
 use mathlib.Core.Bool.{Bool, true, ◌&&◌}
-use Prim.Native.Nat.{◌≤◌, ◌-◌}
+use Prim.Native.Nat.{◌≤◌}
 use Rattle.base_lists.specs.Lists.{all}
 use Rattle.sheet_operator.specs.Memory.{steps_in}
 use Rattle.sheet_step.specs.declared.Step.{Step}

@@ -10,12 +10,13 @@ use lib.ListN.{length, get_or, set}
 use lib.IntN.{ℤ}
 use borrow.Author.Rules.{rules}
 use borrow.Author.Tests.{lt-ltb, le-ltb, leb-false}
-use Rattle.sheet.specs.declared.Answer.TheVariants.{Done}
 use Rattle.sheet.specs.declared.Sheet.{Sheet}
 use Rattle.sheet.specs.Sheet.{view_sheet}
 use Rattle.run_store.specs.declared.Item.{Item}
 use Rattle.base_bounds.specs.Bounds.{QUEUES, ROOM}
 use Rattle.run_machine.specs.declared.State.{State}
+use Rattle.std.specs.Prelude.{Ok}
+use Rattle.base_refusal.specs.declared.Reason.TheVariants.{WrongQueue, FullQueue}
 use Rattle.run_machine.specs.Machine.{Outcome, refuse, done, feed_m}
 use Rattle.run_machine.specs.Numbers.{decode}
 use Rattle.run_machine.specs.Calls.{saved, feed_known}
@@ -50,11 +51,11 @@ module _ (t : Sheet) (st : State) (s : List ℤ) (q : ℕ) (x : Item) where
       -- what the put leaves are the counts and the store of the machine after the feed
       fed_answers : (cs : List ℕ) (v : List ℤ) → length st.counts ≡ QUEUES → leb ROOM (get_or st.counts q 0) ≡ false →
           raw cs v ≡ put_raw (raw st.counts s) q x →
-          Answers (feed_known t st s q x) Done (record { counts = cs; vars = st.vars }) v
+          Answers (feed_known t st s q x) st (Ok (record { counts = cs; vars = st.vars })) v
       fed_answers cs v n f e =
           let held = holds_of_good (view_sheet t) st s h.numbers n in
           let p = push_holds st.counts s (decode st s).queues held q x (decoded_many st s ∙ n) input_below (leb-false ROOM (get_or st.counts q 0) f) in
-          subst (λ (o : Outcome). Answers (saved st s o) Done (record { counts = cs; vars = st.vars }) v) (sym (input_fed f))
+          subst (λ (o : Outcome). Answers (saved st s o) st (Ok (record { counts = cs; vars = st.vars })) v) (sym (input_fed f))
           (record {
             answered = refl;
             stated = ap (λ (c : List ℕ). record { counts = c; vars = st.vars }) (ap (λ (w : Raw). w.counts) e ∙ p.counts);
@@ -68,8 +69,7 @@ module _ (d : Start) where
 pub returns-then-t-q : goal.returns-then-t-q
 returns-then-t-q c =
     let a = c.args in
-    refused_answers a.state a.store.now _ 9 (not_input a.t a.state a.store.now a.q a.x c.if-t-q.true) _ _
-    c.no.ensures.0 c.no.ensures.1
+    rw c.into.ensures (refused_answers a.state a.store.now _ WrongQueue (not_input a.t a.state a.store.now a.q a.x c.if-t-q.true))
 
 pub is_full-requires : goal.is_full-requires
 is_full-requires c =
@@ -79,9 +79,8 @@ is_full-requires c =
 pub returns-then-is_full : goal.returns-then-is_full
 returns-then-is_full c =
     let a = c.args in
-    refused_answers a.state a.store.now _ 12
-    (full_input a.t a.state a.store.now a.q a.x c.if-t-q.false (sym c.is_full.ensures ∙ c.if-is_full.true)) _ _
-    c.no-then-is_full.ensures.0 c.no-then-is_full.ensures.1
+    rw c.into-then-is_full.ensures (refused_answers a.state a.store.now _ FullQueue
+    (full_input a.t a.state a.store.now a.q a.x c.if-t-q.false (sym c.is_full.ensures ∙ c.if-is_full.true)))
 
 pub put-requires : goal.put-requires
 put-requires c =

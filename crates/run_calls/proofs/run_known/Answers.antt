@@ -20,7 +20,7 @@ loop-k-preserved c =
     running_turn c.args.t c.args.state c.args.store.now c.args.list.now (state_with c.loop-k.counts c.loop-k.vars) c.loop-k.store
     c.loop-k.fired c.loop-k.skipped c.loop-k.k c.loop-k.invariant
     c.readers-rs.result c.reader_at-i.result c.readers-rs.ensures c.reader_at-i.ensures
-    f.result (state_with f.new.counts f.new.vars) f.new.store c.one_if_done-n.result
+    f.result f.new.counts f.new.vars f.new.store c.one_if_done-n.result
     (omega arith) f.ensures c.one_if_done-n.ensures.0
 
 pub returns : goal.returns

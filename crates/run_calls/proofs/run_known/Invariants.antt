@@ -1,7 +1,5 @@
 -- `run_calls::run_known` meets its contract: each turn runs one entry more, and at the end what was run is the whole list.
 -- Assumes nothing.
-use Prim.Native.Nat.{◌-◌}
-use lib.ListN.{length}
 use Rattle.run_machine.specs.Working.{state_with}
 use Rattle.run_calls.proofs.Running.{Running}
 use Rattle.run_calls.proofs.run_known.Given as goal

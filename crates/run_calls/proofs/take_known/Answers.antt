@@ -32,7 +32,7 @@ pub returns-then-not-is_output : goal.returns-then-not-is_output
 returns-then-not-is_output c =
     let o = c.is_output in
     let a = c.args in
-    takes_no_output a.t a.state a.store.now a.q o.result c.no_take.result o.ensures c.if-not-is_output.true c.no_take.ensures
+    rw c.into.ensures (takes_no_output a.t a.state a.store.now a.q o.result o.ensures c.if-not-is_output.true)
 
 pub bounds-counts-i : goal.bounds-counts-i
 bounds-counts-i c = below (goal.at.bounds-counts-i c).Else-not-is_output
@@ -41,8 +41,8 @@ pub returns-then-counts-i-eq0 : goal.returns-then-counts-i-eq0
 returns-then-counts-i-eq0 c =
     let o = c.is_output in
     let a = c.args in
-    takes_empty a.t a.state a.store.now a.q o.result c.no_take-then-counts-i-eq0.result o.ensures c.if-not-is_output.false c.if-counts-i-eq0.true
-    c.no_take-then-counts-i-eq0.ensures
+    rw c.into-then-counts-i-eq0.ensures
+    (takes_empty a.t a.state a.store.now a.q o.result o.ensures c.if-not-is_output.false c.if-counts-i-eq0.true)
 
 pub first-item-requires : goal.first-item-requires
 first-item-requires c =

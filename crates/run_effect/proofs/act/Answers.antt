@@ -13,25 +13,25 @@ pub cursor-c-requires : goal.cursor-c-requires
 cursor-c-requires c =
     (c.requires.0.variable, deal_test c.args.o c.args.vars (search rules) ∙ c.requires.1)
 
-pub move_on-u-requires : goal.move_on-u-requires
-move_on-u-requires c =
+pub move_on-requires : goal.move_on-requires
+move_on-requires c =
     (c.requires.0.variable, deal_test c.args.o c.args.vars (search rules) ∙ c.requires.1)
 
-pub move_on-u-requires-in-Gather : goal.move_on-u-requires-in-Gather
-move_on-u-requires-in-Gather c =
+pub move_on-requires-in-Gather : goal.move_on-requires-in-Gather
+move_on-requires-in-Gather c =
     (c.requires.0.variable, gather_test c.args.o c.args.vars (search rules) ∙ c.requires.1)
 
 pub returns-in-Line : goal.returns-in-Line
 unfolding effect
 returns-in-Line c =
     let a = c.args in
-    c.line_effect.ensures ∙ ap (line_result (get_or a.o.outs 0 0)) c.run_line-y.ensures
+    c.line_effect.ensures ∙ ap (line_result (get_or a.o.outs 0 0)) c.run_line.ensures
     ∙ by_kind (λ (y : Op). effect y a.x a.vars) a.o Line (search rules)
 
 pub returns-in-Latest : goal.returns-in-Latest
 returns-in-Latest c =
     let a = c.args in
-    let u = c.latest-u in
+    let u = c.latest in
     c.to-in-Latest.ensures ∙ latest_effect a.o a.vars (search rules) a.x u.result u.ensures
 
 pub returns-in-Double : goal.returns-in-Double
@@ -44,11 +44,11 @@ pub returns-in-Deal : goal.returns-in-Deal
 returns-in-Deal c =
     let a = c.args in
     let n = c.cursor-c in
-    let u = c.move_on-u in
+    let u = c.move_on in
     c.to-in-Deal.ensures ∙ deal_effect a.o a.vars (search rules) a.x n.result u.result n.ensures.0 n.ensures.1 u.ensures
 
 pub returns-in-Gather : goal.returns-in-Gather
 returns-in-Gather c =
     let a = c.args in
-    let u = c.move_on-u-in-Gather in
+    let u = c.move_on-in-Gather in
     c.to-in-Gather.ensures ∙ gather_effect a.o a.vars (search rules) a.x u.result u.ensures

@@ -38,18 +38,13 @@ module _ (c : After-act-e) where
   acts = c.act-e.ensures ∙ ap (λ (x : Item). effect (view c.args.o) x c.args.state.vars) c.first-x.ensures
 
 pub returns-then-counts-i-eq0 : goal.returns-then-counts-i-eq0
-returns-then-counts-i-eq0 c =
-    let a = c.args in
-    attempt_refused a.o a.q a.state a.store.now _ 10 _ c.none_of.ensures c.first-x.ensures
-    (fire_empty _ _ _ _ c.if-counts-i-eq0.true)
+returns-then-counts-i-eq0 c = attempt_refused _ _ _ _ _ (fire_empty _ _ _ _ c.if-counts-i-eq0.true)
 
 pub returns-then-has_to_wait : goal.returns-then-has_to_wait
 returns-then-has_to_wait c =
     let a = c.args in
     let w = sym c.has_to_wait.ensures ∙ c.if-has_to_wait.true in
-    let at = goal.at.returns-then-has_to_wait c in
-    attempt_refused a.o a.q a.state a.store.now _ 11 _ c.none_of-then-has_to_wait.ensures c.first-x.ensures
-    (fire_waits a.o a.q a.state a.store.now (there at.Else-counts-i-eq0) w)
+    attempt_refused _ _ _ _ _ (fire_waits a.o a.q a.state a.store.now (there (goal.at.returns-then-has_to_wait c).Else-counts-i-eq0) w)
 
 pub no_room-requires : goal.no_room-requires
 no_room-requires c =
@@ -62,7 +57,7 @@ returns-then-no_room c =
     let a = c.args in
     let f = sym c.no_room.ensures ∙ c.if-no_room.true in
     let at = goal.at.returns-then-no_room c in
-    attempt_refused a.o a.q a.state a.store.now _ 12 _ c.none_of-then-no_room.ensures c.first-x.ensures
+    attempt_refused _ _ _ _ _
     (fire_full a.o a.q a.state a.store.now (there at.Else-counts-i-eq0) (turn at.Else-has_to_wait) (many at.Start) c.requires
     c.act-e.result (acts at.After-act-e) f)
 

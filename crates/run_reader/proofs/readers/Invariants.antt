@@ -16,6 +16,3 @@ from t i = build QUEUES (reader_from (drop i (view_sheet t).ops) i)
 
 abbrev pub invariant-loop-i : goal.invariant-loop-i
 invariant-loop-i l = (l.i ≤ l.t.count) × (l.r ≡ from l.t l.i)
-
-abbrev pub decreases-loop-i : goal.decreases-loop-i
-decreases-loop-i l = l.i

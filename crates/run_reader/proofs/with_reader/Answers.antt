@@ -25,8 +25,8 @@ small c =
     (ins_told a.o s c.requires.0 c.shape_of-s.ensures (all (λ (q : ℕ). ltb q QUEUES)) ∙ c.requires.1)
     c.loop-j.j c.loop-j-test.true)
 
-pub bounds-r-q : goal.bounds-r-q
-bounds-r-q c = small (goal.at.bounds-r-q c).In-loop-j
+pub bounds-r-o : goal.bounds-r-o
+bounds-r-o c = small (goal.at.bounds-r-o c).In-loop-j
 
 pub returns : goal.returns
 returns c =

@@ -1,24 +1,18 @@
 -- `runner::ready` meets its contract: the test's refusal with the empty set, else the set that `ready_known` answers.
 -- Assumes nothing.
-use mathlib.Core.Path.{refl}
+use mathlib.Core.Path.{◌≡◌}
+use borrow.Author.Rules.{rules}
+use Rattle.std.specs.Prelude.{Err}
 use Rattle.runner.proofs.Calling.{ready_answers, ready_refuses}
 use Rattle.runner.proofs.ready.Goals as goal
 
-pub returns-in-Done : goal.returns-in-Done
-returns-in-Done c =
+pub returns-in_err-stands : goal.returns-in_err-stands
+returns-in_err-stands c =
     let a = c.args in
-    let n = c.ready_known-set in
-    ready_answers a.t a.state a.store.now c.stands-a.result c.stands-a.ensures c.in-Done.is n.result
-    c.ready_answer.result n.ensures c.ready_answer.ensures
+    let e : c.from_residual.result ≡ Err c.in_err-stands.field-0.0 = search rules in
+    rw e (ready_refuses a.t a.state a.store.now c.in_err-stands.field-0.0 c.in_err-stands.ensures)
 
-pub returns-in-RefusedAt : goal.returns-in-RefusedAt
-returns-in-RefusedAt c =
+pub returns : goal.returns
+returns c =
     let a = c.args in
-    ready_refuses a.t a.state a.store.now c.stands-a.result c.stands-a.ensures _ c.in-RefusedAt.is refl
-    c.ready_answer-in-RefusedAt.result c.ready_answer-in-RefusedAt.ensures
-
-pub returns-in-Refused : goal.returns-in-Refused
-returns-in-Refused c =
-    let a = c.args in
-    ready_refuses a.t a.state a.store.now c.stands-a.result c.stands-a.ensures _ c.in-Refused.is refl
-    c.ready_answer-in-Refused.result c.ready_answer-in-Refused.ensures
+    ready_answers a.t a.state a.store.now c.in_ok-stands.ensures c.ready_known-set.result c.ready_known-set.ensures

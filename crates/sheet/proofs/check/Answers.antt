@@ -3,18 +3,18 @@ use mathlib.Core.Path.{◌≡◌, refl, sym, ap, ◌∙◌}
 use mathlib.Core.Bool.{Bool, true, false, not, cond}
 use mathlib.Core.List.{[]}
 use Prim.Native.Nat.{ℕ, ◌+◌}
-use native.Mathlib.Omega.{arith}
+use Rattle.std.proofs.lemmas.Result.{err_from_is_err_and}
 use Rattle.base_lists.proofs.Build.{build_length}
+use Rattle.base_refusal.specs.declared.Refusal.{Refusal}
 use Rattle.sheet_operator.specs.Memory.{view}
 use Rattle.sheet_judge.specs.Judge.{Known, known, whole}
 use Rattle.sheet_format.specs.Head.{head_good}
-use Rattle.sheet_format.proofs.Heads.{ranges_of_good}
 use Rattle.sheet.specs.declared.Sheet.{Sheet}
-use Rattle.sheet.specs.Answer.{accepted, refused_at}
+use Rattle.sheet.specs.Answer.{accepted, refused_at, refused_for}
 use Rattle.sheet.specs.Sheet.{op_at, view_to, view_sheet}
-use Rattle.sheet.specs.Check.{Kept, stopped, kept, check_from, ending, vacant_from, check_end, check_of}
+use Rattle.sheet.specs.Check.{Kept, kept, check_from, ending, vacant_from, check_end, check_of}
 use Rattle.sheet.proofs.check.Goals as goal
-use Rattle.sheet.proofs.check.Goals.{After-all_defined, After-judge_operators-j}
+use Rattle.sheet.proofs.check.Goals.{After-all_defined, After-judge_operators}
 
 -- the test of the head
 abbrev head_test : Sheet → Bool
@@ -28,9 +28,9 @@ good_head : (t : Sheet) (k : Kept) → head_test t ≡ true → check_from t t.c
 unfolding check_of
 good_head t k h e = rw (h, e)
 
-bad_operator : (t : Sheet) (number spot : ℕ) → head_test t ≡ true → check_from t t.count (view_to t 0) ≡ stopped number spot →
-    refused_at number spot ≡ check_of t
-bad_operator t number spot h e = sym (good_head t (stopped number spot) h e)
+bad_operator : (t : Sheet) (e : Refusal) → head_test t ≡ true → check_end t (check_from t t.count (view_to t 0)) ≡ refused_for e.reason e.spot →
+    refused_for e.reason e.spot ≡ check_of t
+bad_operator t e h d = sym (good_head t (check_from t t.count (view_to t 0)) h refl ∙ d)
 
 -- what stands at record N+1
 past_end : (t : Sheet) (v w : Bool) → vacant_from t ≡ v → whole t.queues (known (view_sheet t)) ≡ w →
@@ -46,7 +46,7 @@ left_over : (t : Sheet) → head_test t ≡ true → check_from t t.count (view_
     refused_at 1 (t.count + 1) ≡ check_of t
 left_over t h k e = ended t false (whole t.queues (known (view_sheet t))) h k e refl
 
-head_true : (c : After-judge_operators-j) → head_test c.args.t ≡ true
+head_true : (c : After-judge_operators) → head_test c.args.t ≡ true
 head_true c = sym c.head_good.ensures ∙ c.if-not-head_good.false
 
 -- every operator kept, nothing left over: the answer goes by the queues
@@ -55,37 +55,33 @@ all_kept : (c : After-all_defined) (w : Bool) → c.all_defined.result ≡ w →
     ≡ cond w accepted (refused_at 5 (c.args.t.count + 1))
 all_kept c w r =
     let t = c.args.t in
-    let k = c.judge_operators-j in
-    let d = ap (λ (x : Known). whole t.queues x) (k.ensures.seen c.if-number-ne0.false) in
+    let d = ap (λ (x : Known). whole t.queues x) c.in_ok-seen.ensures.1 in
     let v = c.vacant_from in
     let h = sym c.head_good.ensures ∙ c.if-not-head_good.false in
-    sym (ended t true w h (k.ensures.keeps c.if-number-ne0.false) (sym v.ensures ∙ c.if-not-vacant_from.false)
+    sym (ended t true w h c.in_ok-seen.ensures.0 (sym v.ensures ∙ c.if-not-vacant_from.false)
     (sym d ∙ sym c.all_defined.ensures ∙ r))
 
 pub returns-then-not-head_good : goal.returns-then-not-head_good
-returns-then-not-head_good c = bad_head c.args.t (sym c.head_good.ensures ∙ c.if-not-head_good.true)
+returns-then-not-head_good c = rw c.at.ensures (bad_head c.args.t (sym c.head_good.ensures ∙ c.if-not-head_good.true))
 
-pub judge_operators-j-requires : goal.judge_operators-j-requires
-judge_operators-j-requires c = sym c.head_good.ensures ∙ c.if-not-head_good.false
+pub judge_operators-requires : goal.judge_operators-requires
+judge_operators-requires c = sym c.head_good.ensures ∙ c.if-not-head_good.false
 
-pub returns-then-number-ne0 : goal.returns-then-number-ne0
-returns-then-number-ne0 c =
-    let j = c.judge_operators-j.result in
-    bad_operator c.args.t j.number j.spot (head_true (goal.at.returns-then-number-ne0 c).After-judge_operators-j)
-    (c.judge_operators-j.ensures.stops c.if-number-ne0.true)
-
-pub overflow_add-past : goal.overflow_add-past
-overflow_add-past c =
-    let t = c.args.t in
-    omega (arith, ranges_of_good t.inputs t.queues t.variables t.count (head_true (goal.at.overflow_add-past c).After-judge_operators-j))
+pub returns-in_err-seen : goal.returns-in_err-seen
+returns-in_err-seen c =
+    let p = err_from_is_err_and c.from_residual.result c.from_residual.ensures.1 in
+    let h = sym c.head_good.ensures ∙ c.if-not-head_good.false in
+    rw (p.1, p.2) (bad_operator c.args.t c.in_err-seen.field-0.0 h c.in_err-seen.ensures)
 
 pub returns-then-not-vacant_from : goal.returns-then-not-vacant_from
 returns-then-not-vacant_from c =
-    left_over c.args.t (head_true (goal.at.returns-then-not-vacant_from c).After-judge_operators-j) (c.judge_operators-j.ensures.keeps c.if-number-ne0.false)
-    (sym c.vacant_from.ensures ∙ c.if-not-vacant_from.true)
+    rw c.at-then-not-vacant_from.ensures
+    (left_over c.args.t (head_true (goal.at.returns-then-not-vacant_from c).After-judge_operators) c.in_ok-seen.ensures.0
+    (sym c.vacant_from.ensures ∙ c.if-not-vacant_from.true))
 
 pub returns-then-not-all_defined : goal.returns-then-not-all_defined
-returns-then-not-all_defined c = sym (all_kept (goal.at.returns-then-not-all_defined c).After-all_defined false c.if-not-all_defined.true)
+returns-then-not-all_defined c =
+    rw c.at-then-not-all_defined.ensures (sym (all_kept (goal.at.returns-then-not-all_defined c).After-all_defined false c.if-not-all_defined.true))
 
 pub returns : goal.returns
 returns c = sym (all_kept (goal.at.returns c).After-all_defined true c.if-not-all_defined.false)

@@ -11,19 +11,17 @@ use Rattle.sheet_operator.specs.Memory.{is_empty, memory}
 use Rattle.sheet_operator.specs.declared.Kind.{Kind}
 use Rattle.sheet_operator.specs.declared.Operator.{Operator}
 use Rattle.sheet_format.specs.Record.{kind_of, cut, body_good, op_of, taken, bad, took}
-use Rattle.sheet_decode.specs.Takes.{no_record, record_as, record_at}
-use Rattle.sheet_decode.specs.declared.TakenRecord.{TakenRecord}
+use Rattle.sheet_decode.specs.Takes.{RecordTaken, no_record, record_as, record_at}
 use Rattle.sheet_decode.proofs.Cut.{whole_at}
 use Rattle.sheet_decode.proofs.take.Goals as goal
 use Rattle.sheet_decode.proofs.take.Goals.{After-kind_of-k, Else-is_cut}
 
--- a refusal, whatever its record
-refuses : (s : List ℕ) (at m : ℕ) (r : TakenRecord) → taken (drop at s) ≡ bad m → r ≡ no_record m → r ≡ record_at s at
+refuses : (s : List ℕ) (at m : ℕ) → taken (drop at s) ≡ bad m → no_record m ≡ record_at s at
 unfolding record_at
-refuses s at m r t e = e ∙ ap (record_as s at) (sym t)
+refuses s at m t = ap (record_as s at) (sym t)
 
 -- an operator, with the place after its record
-abbrev took_as : ℕ → Operator → TakenRecord
+abbrev took_as : ℕ → Operator → RecordTaken
 took_as next o = record { number = 0; next = next; op = o }
 
 -- the header's two numbers and the kind
@@ -53,11 +51,11 @@ module _ {s : List ℕ} {at n m : ℕ} {k : Kind} (h : Header s at n m k) where
   unfolding taken
   taken_op e g = rw (h.some, ← kind_at, e, ← h.size, g, drop-drop 4 at s, drop-drop n (at + 4) s)
 
-  kind_refused : (r : TakenRecord) → is_empty k ≡ true → r ≡ no_record 2 → r ≡ record_at s at
-  kind_refused r e d = refuses s at 2 r (taken_kind e) d
+  kind_refused : is_empty k ≡ true → no_record 2 ≡ record_at s at
+  kind_refused e = refuses s at 2 (taken_kind e)
 
-  length_refused : (r : TakenRecord) → is_empty k ≡ false → body_good k n ≡ false → r ≡ no_record 1 → r ≡ record_at s at
-  length_refused r e g d = refuses s at 1 r (taken_length e g) d
+  length_refused : is_empty k ≡ false → body_good k n ≡ false → no_record 1 ≡ record_at s at
+  length_refused e g = refuses s at 1 (taken_length e g)
 
   takes : (o : Operator) → is_empty k ≡ false → body_good k n ≡ true → o ≡ memory (op_of k n (drop (at + 4) s)) → took_as (at + 4 + n) o ≡ record_at s at
   unfolding record_at
@@ -87,7 +85,7 @@ pub returns-then-is_cut : goal.returns-then-is_cut
 returns-then-is_cut c =
     let a = c.args in
     let e = sym c.is_cut.ensures ∙ c.if-is_cut.true in
-    refuses a.s.now a.at 1 _ (taken_cut a.s.now a.at e) c.refused.ensures
+    refuses a.s.now a.at 1 (taken_cut a.s.now a.at e)
 
 pub short_at-n-requires : goal.short_at-n-requires
 short_at-n-requires c = omega (arith, some_at (goal.at.short_at-n-requires c).Else-is_cut)
@@ -98,13 +96,13 @@ short_at-code-requires c = omega (arith, some_at (goal.at.short_at-code-requires
 pub returns-then-is_empty : goal.returns-then-is_empty
 returns-then-is_empty c =
     let e = sym c.is_empty.ensures ∙ c.if-is_empty.true in
-    kind_refused (header (goal.at.returns-then-is_empty c).After-kind_of-k) _ e c.refused-then-is_empty.ensures
+    kind_refused (header (goal.at.returns-then-is_empty c).After-kind_of-k) e
 
 pub returns-then-not-body_good : goal.returns-then-not-body_good
 returns-then-not-body_good c =
     let e = sym c.is_empty.ensures ∙ c.if-is_empty.false in
     let g = sym c.body_good.ensures ∙ c.if-not-body_good.true in
-    length_refused (header (goal.at.returns-then-not-body_good c).After-kind_of-k) _ e g c.refused-then-not-body_good.ensures
+    length_refused (header (goal.at.returns-then-not-body_good c).After-kind_of-k) e g
 
 pub operator_at-op-requires : goal.operator_at-op-requires
 operator_at-op-requires c =

@@ -10,15 +10,13 @@ use Rattle.base_number.specs.Number.{short_of}
 use Rattle.sheet_format.specs.Record.{cut}
 use Rattle.sheet_format.specs.Head.{head_good, head_number}
 use Rattle.sheet_decode.specs.Takes.{no_head, head_as, head_taken}
-use Rattle.sheet_decode.specs.declared.Head.{Head}
 use Rattle.sheet_decode.proofs.Cut.{whole_at}
 use Rattle.sheet_decode.proofs.take_head.Goals as goal
 use Rattle.sheet_decode.proofs.take_head.Goals.{Else-is_cut, Else-short_at-ne-HEAD_BODY}
 
--- a refusal, whatever its record
-refuses : (s : List ℕ) (m : ℕ) (r : Head) → head_number s ≡ suc m → r ≡ no_head (suc m) → r ≡ head_taken s
+refuses : (s : List ℕ) (m : ℕ) → head_number s ≡ suc m → no_head (suc m) ≡ head_taken s
 unfolding head_taken
-refuses s m r t e = e ∙ ap (λ (n : ℕ). head_as n s) (sym t)
+refuses s m t = ap (λ (n : ℕ). head_as n s) (sym t)
 
 number_cut : (s : List ℕ) → cut s ≡ true → head_number s ≡ 1
 unfolding head_number
@@ -68,7 +66,7 @@ pub returns-then-is_cut : goal.returns-then-is_cut
 returns-then-is_cut c =
     let s = c.args.s.now in
     let e = sym c.is_cut.ensures ∙ c.if-is_cut.true in
-    refuses s 0 _ (number_cut s e) c.no_head.ensures
+    refuses s 0 (number_cut s e)
 
 pub short_at-requires : goal.short_at-requires
 short_at-requires c =
@@ -78,7 +76,7 @@ short_at-requires c =
 pub returns-then-short_at-ne1 : goal.returns-then-short_at-ne1
 returns-then-short_at-ne1 c =
     let k = rw c.short_at.ensures.0 at c.if-short_at-ne1.true in
-    refuses _ 1 _ (number_kind _ (some_at (goal.at.returns-then-short_at-ne1 c).Else-is_cut) k) c.no_head-then-short_at-ne1.ensures
+    refuses _ 1 (number_kind _ (some_at (goal.at.returns-then-short_at-ne1 c).Else-is_cut) k)
 
 pub short_at-requires-2 : goal.short_at-requires-2
 short_at-requires-2 c =
@@ -89,7 +87,7 @@ pub returns-then-short_at-ne-HEAD_BODY : goal.returns-then-short_at-ne-HEAD_BODY
 returns-then-short_at-ne-HEAD_BODY c =
     let k = sym c.short_at.ensures.0 ∙ c.if-short_at-ne1.false in
     let l = rw c.short_at-2.ensures.0 at c.if-short_at-ne-HEAD_BODY.true in
-    refuses _ 0 _ (number_length _ (some_at (goal.at.returns-then-short_at-ne-HEAD_BODY c).Else-is_cut) k l) c.no_head-then-short_at-ne-HEAD_BODY.ensures
+    refuses _ 0 (number_length _ (some_at (goal.at.returns-then-short_at-ne-HEAD_BODY c).Else-is_cut) k l)
 
 pub bounds-s-4 : goal.bounds-s-4
 bounds-s-4 c = omega (arith, header_inside (header (goal.at.bounds-s-4 c).Else-short_at-ne-HEAD_BODY))
@@ -107,7 +105,7 @@ pub returns-then-not-head_good : goal.returns-then-not-head_good
 returns-then-not-head_good c =
     let h = header (goal.at.returns-then-not-head_good c).Else-short_at-ne-HEAD_BODY in
     let g = sym c.head_good.ensures ∙ c.if-not-head_good.true in
-    refuses _ 2 _ (number_range h g) c.no_head-then-not-head_good.ensures
+    refuses _ 2 (number_range h g)
 
 pub returns : goal.returns
 returns c =

@@ -1,6 +1,5 @@
 -- `sheet_judge::admit` meets its contract: an operator that the judge keeps has queues and variables that have flags.
-use mathlib.Core.Path.{◌≡◌, refl, ◌∙◌, sym}
-use borrow.Author.Tests.{ne_eqb}
+use mathlib.Core.Path.{◌≡◌, sym}
 use Rattle.base_lists.proofs.Members.{all_below}
 use Rattle.sheet_operator.specs.Op.{names}
 use Rattle.sheet_operator.specs.Memory.{view}
@@ -10,14 +9,11 @@ use Rattle.sheet_judge.specs.Seen.{known_by}
 use Rattle.sheet_judge.proofs.JudgedLaws.{judged_four, judged_six, six_names, four_flagged}
 use Rattle.sheet_judge.proofs.admit.Goals as goal
 
-pub returns-then-number-ne0 : goal.returns-then-number-ne0
-returns-then-number-ne0 c = record { number = c.judged-number.ensures; known = rw (ne_eqb c.judged-number.result 0 c.if-number-ne0.true) refl }
-
-pub kept-next-requires : goal.kept-next-requires
-kept-next-requires c =
+pub kept-requires : goal.kept-requires
+kept-requires c =
     let a = c.args in
     let k = known_by a.seen in
-    let zero : judge_by a.queues a.variables k (view a.o) ≡ 0 = sym c.judged-number.ensures ∙ c.if-number-ne0.false in (
+    let zero : judge_by a.queues a.variables k (view a.o) ≡ 0 = sym c.in_ok-judge.ensures in (
       c.requires.0,
       four_flagged a.queues k a.o c.requires.1 (judged_four a.queues a.variables k (view a.o) zero),
       all_below a.variables FLAGS (names (view a.o)) c.requires.2
@@ -25,6 +21,4 @@ kept-next-requires c =
     )
 
 pub returns : goal.returns
-returns c =
-    let j = c.judged-number in
-    record { number = sym c.if-number-ne0.false ∙ j.ensures; known = c.kept-next.ensures }
+returns c = record { number = c.in_ok-judge.ensures; known = c.kept.ensures }

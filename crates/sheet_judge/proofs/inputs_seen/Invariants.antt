@@ -1,6 +1,6 @@
 -- `sheet_judge::inputs_seen` meets its contract: the loop keeps that exactly the inputs passed are defined.
 use mathlib.Core.Path.{◌≡◌}
-use Prim.Native.Nat.{ℕ, ◌≤◌, ◌-◌}
+use Prim.Native.Nat.{ℕ, ◌≤◌}
 use lib.Dec.{ltb}
 use lib.ListN.{length}
 use Rattle.base_lists.specs.Lists.{has}

@@ -1,7 +1,7 @@
 -- `sheet_judge::ins_good` meets its contract: the loop keeps that every queue passed was good.
 use mathlib.Core.Path.{◌≡◌}
 use mathlib.Core.Bool.{true, ◌&&◌}
-use Prim.Native.Nat.{ℕ, ◌≤◌, ◌-◌}
+use Prim.Native.Nat.{ℕ, ◌≤◌}
 use lib.Dec.{ltb}
 use Rattle.base_lists.specs.Lists.{all, has}
 use Rattle.sheet_operator.specs.Memory.{ways}

@@ -3,31 +3,14 @@ use mathlib.Core.Path.{◌∙◌}
 use mathlib.Core.Bool.{Bool, ◌||◌}
 use mathlib.Core.List.{List}
 use Prim.Native.Nat.{ℕ}
-use lib.Dec.{ltb}
-use Rattle.base_lists.specs.Lists.{all, member, has}
+use Rattle.base_lists.specs.Lists.{member, has}
 use Rattle.sheet_judge.proofs.KnownLaws.{known_eq}
-use Rattle.sheet_judge.proofs.Shapes.{ins_small, outs_small, ins_told, outs_told}
+use Rattle.sheet_judge.proofs.Shapes.{ins_told, outs_told}
 use Rattle.sheet_judge.proofs.kept.Goals as goal
 
 -- the numbers of a list and those of a set
 abbrev added : List Bool → List ℕ → ℕ → Bool
 added s l k = member k l || has s k
-
-pub all_flagged-defined-requires : goal.all_flagged-defined-requires
-all_flagged-defined-requires c =
-    let p = c.requires in
-    let o = c.args.o in (
-      outs_small o c.shape_of-s.result p.0 c.shape_of-s.ensures,
-      outs_told o c.shape_of-s.result p.0 c.shape_of-s.ensures (all (λ (q : ℕ). ltb q 32)) ∙ p.1.outs,
-    )
-
-pub all_flagged-used-requires : goal.all_flagged-used-requires
-all_flagged-used-requires c =
-    let p = c.requires in
-    let o = c.args.o in (
-      ins_small o c.shape_of-s.result p.0 c.shape_of-s.ensures,
-      ins_told o c.shape_of-s.result p.0 c.shape_of-s.ensures (all (λ (q : ℕ). ltb q 32)) ∙ p.1.ins,
-    )
 
 pub returns : goal.returns
 returns c =

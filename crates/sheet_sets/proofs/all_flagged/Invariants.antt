@@ -1,7 +1,7 @@
 -- `sheet_sets::all_flagged` meets its contract: the loop keeps that the set has the queues passed.
 use mathlib.Core.Path.{◌≡◌}
 use mathlib.Core.Bool.{◌||◌}
-use Prim.Native.Nat.{ℕ, ◌≤◌, ◌-◌}
+use Prim.Native.Nat.{ℕ, ◌≤◌}
 use lib.ListN.{length}
 use Rattle.base_lists.specs.Lists.{member, has}
 use Rattle.sheet_operator.specs.Memory.{ways}

@@ -1,7 +1,7 @@
 -- `sheet_sets::is_fresh` meets its contract: the loop's set has the queues passed, none of which was known or stood there twice.
 use mathlib.Core.Path.{◌≡◌}
 use mathlib.Core.Bool.{true, ◌||◌}
-use Prim.Native.Nat.{ℕ, ◌≤◌, ◌-◌}
+use Prim.Native.Nat.{ℕ, ◌≤◌}
 use lib.ListN.{length}
 use Rattle.base_lists.specs.Lists.{member, fresh, has}
 use Rattle.sheet_operator.specs.Memory.{ways}

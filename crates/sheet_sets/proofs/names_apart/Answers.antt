@@ -8,9 +8,8 @@ use Rattle.base_lists.proofs.Tests.{all_chain}
 use Rattle.sheet_step.specs.Step.{step_names}
 use Rattle.sheet_operator.specs.Op.{Op, names}
 use Rattle.sheet_operator.specs.Memory.{steps_in}
-use Rattle.sheet_operator.specs.declared.Kind.TheVariants.{Empty, Line, Latest, Double, Deal, Gather}
+use Rattle.sheet_operator.specs.declared.Kind.TheVariants.{Line}
 use Rattle.sheet_operator.proofs.ViewLaws.{by_kind}
-use Rattle.sheet_sets.proofs.Sets.{one_apart}
 use Rattle.sheet_sets.proofs.names_apart.Goals as goal
 
 abbrev apart : List Bool → List ℕ → Bool
@@ -19,29 +18,8 @@ apart s l = all (λ (v : ℕ). not (has s v)) l
 abbrev apart_by : List Bool → Op → Bool
 apart_by s x = apart s (names x)
 
-pub returns-in-Empty : goal.returns-in-Empty
-returns-in-Empty c = let a = c.args in by_kind (apart_by a.s) a.o Empty c.in-Empty.is
-
 pub returns-in-Line : goal.returns-in-Line
 returns-in-Line c =
     let a = c.args in
     c.steps_apart.ensures ∙ sym (all_chain (λ (v : ℕ). not (has a.s v)) step_names (steps_in a.o.count a.o.steps))
     ∙ by_kind (apart_by a.s) a.o Line c.in-Line.is
-
-pub returns-in-Latest : goal.returns-in-Latest
-returns-in-Latest c =
-    let a = c.args in
-    one_apart a.s a.o.variable _ c.flag.ensures ∙ by_kind (apart_by a.s) a.o Latest c.in-Latest.is
-
-pub returns-in-Double : goal.returns-in-Double
-returns-in-Double c = let a = c.args in by_kind (apart_by a.s) a.o Double c.in-Double.is
-
-pub returns-in-Deal : goal.returns-in-Deal
-returns-in-Deal c =
-    let a = c.args in
-    one_apart a.s a.o.variable _ c.flag-in-Deal.ensures ∙ by_kind (apart_by a.s) a.o Deal c.in-Deal.is
-
-pub returns-in-Gather : goal.returns-in-Gather
-returns-in-Gather c =
-    let a = c.args in
-    one_apart a.s a.o.variable _ c.flag-in-Gather.ensures ∙ by_kind (apart_by a.s) a.o Gather c.in-Gather.is

@@ -25,6 +25,6 @@ step_from s at = simp (get_or-drop, drop-drop, add-zero)
 
 pub returns : goal.returns
 returns c =
-    let low = to_z-of_z {w = w32} (sfits_of c.int_at-low.type_inv) ∙ c.int_at-low.ensures in
-    let high = to_z-of_z {w = w32} (sfits_of c.int_at-high.type_inv) ∙ c.int_at-high.ensures in
-    rw (c.func_of-f.ensures, low, high) (step_from c.args.s.now c.args.at)
+    let low = to_z-of_z {w = w32} (sfits_of c.int_at.type_inv) ∙ c.int_at.ensures in
+    let high = to_z-of_z {w = w32} (sfits_of c.int_at-2.type_inv) ∙ c.int_at-2.ensures in
+    rw (c.from.ensures, low, high) (step_from c.args.s.now c.args.at)

@@ -7,7 +7,7 @@ use Rattle.text_print.proofs.print_good.Goals as goal
 pub returns-then-buffer-n : goal.returns-then-buffer-n
 returns-then-buffer-n c =
     let k = c.put_text-n in
-    prints_short _ _ _ _ k.result c.requires k.ensures.puts (omega arith)
+    rw c.at.ensures (prints_short _ _ _ _ k.result c.requires k.ensures.puts (omega arith))
 
 pub returns : goal.returns
 returns c =

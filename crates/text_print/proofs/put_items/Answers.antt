@@ -1,6 +1,5 @@
 use native.Mathlib.Omega.{arith}
 use mathlib.Core.Path.{refl}
-use Prim.Native.Nat.{◌-◌}
 use Rattle.sheet_operator.proofs.ViewLaws.{ready_of_number}
 use Rattle.sheet.specs.Sheet.{op_at}
 use Rattle.sheet.proofs.Accepted.{accepted_facts, ranges_of_accepted}

@@ -1,6 +1,6 @@
 -- `text_print::put_items` meets its contract: the first i operators are put.
 -- Assumes nothing.
-use Prim.Native.Nat.{ℕ, ◌-◌}
+use Prim.Native.Nat.{ℕ}
 use Rattle.base_lists.specs.Lists.{chain}
 use Rattle.sheet.specs.Sheet.{view_to}
 use Rattle.text_grammar.specs.Tokens.{printed}

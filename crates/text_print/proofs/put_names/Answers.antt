@@ -1,6 +1,6 @@
 use native.Mathlib.Omega.{arith}
 use mathlib.Core.Path.{refl}
-use Prim.Native.Nat.{ℕ, ◌-◌}
+use Prim.Native.Nat.{ℕ}
 use lib.ListN.{get_or}
 use Rattle.text_parts.proofs.Pieces.{putting_starts, putting_goes_on, putting_ends, within}
 use Rattle.text_print.proofs.Naming.{names_more}

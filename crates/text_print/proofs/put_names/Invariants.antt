@@ -1,6 +1,6 @@
 -- `text_print::put_names` meets its contract: the first i are put.
 -- Assumes nothing.
-use Prim.Native.Nat.{ℕ, ◌-◌}
+use Prim.Native.Nat.{ℕ}
 use Rattle.sheet_operator.specs.Memory.{ways}
 use Rattle.text_parts.proofs.Pieces.{Putting}
 use Rattle.text_print.specs.Names.{NAME_TEXT, names_text}

@@ -1,39 +1,29 @@
 -- `text_programs::to_bytes` meets its contract: one law for each way out.
 -- Assumes nothing.
 use Rattle.text_programs.proofs.Sending.{sends_as}
-use Rattle.text_programs.proofs.Programs.{to_bytes_long, to_bytes_accepted, to_bytes_within, to_bytes_done}
-use Rattle.text_programs.proofs.Programs.{to_bytes_refused_at, to_bytes_refused, to_bytes_outside}
+use Rattle.text_programs.proofs.Programs.{to_bytes_long, to_bytes_accepted, to_bytes_within, to_bytes_done, to_bytes_refused, to_bytes_outside}
 use Rattle.text_programs.proofs.to_bytes.Goals as goal
 
 pub returns-then-input-gt-INPUT : goal.returns-then-input-gt-INPUT
-returns-then-input-gt-INPUT c = sends_as (to_bytes_long _ c.if-input-gt-INPUT.true) c.refused.ensures
+returns-then-input-gt-INPUT c = sends_as (to_bytes_long _ c.if-input-gt-INPUT.true) (rw c.at.ensures at c.refused.ensures)
 
 pub sheet_bytes-requires : goal.sheet_bytes-requires
-sheet_bytes-requires c =
-    let r = c.read-r in
-    (to_bytes_accepted _ r.result r.ensures c.in-Done.is, c.requires)
+sheet_bytes-requires c = (to_bytes_accepted _ _ c.in-Ok.ensures, c.requires)
 
 pub outside-requires : goal.outside-requires
 outside-requires c =
-    let r = c.read-r in
-    (c.requires, to_bytes_within _ r.result r.ensures _ c.in-Outside.is, c.if-input-gt-INPUT.false)
+    let w = c.in-Err-Outside in
+    (c.requires, to_bytes_within _ _ (rw w.field-0-is at w.ensures), c.if-input-gt-INPUT.false)
 
-pub returns-in-Done : goal.returns-in-Done
-returns-in-Done c =
-    let r = c.read-r in
-    sends_as (to_bytes_done _ r.result r.ensures c.if-input-gt-INPUT.false c.in-Done.is) c.sheet_bytes.ensures
+pub returns-in-Ok : goal.returns-in-Ok
+returns-in-Ok c = sends_as (to_bytes_done _ c.if-input-gt-INPUT.false _ c.in-Ok.ensures) c.sheet_bytes.ensures
 
-pub returns-in-RefusedAt : goal.returns-in-RefusedAt
-returns-in-RefusedAt c =
-    let r = c.read-r in
-    sends_as (to_bytes_refused_at _ r.result r.ensures c.if-input-gt-INPUT.false _ _ c.in-RefusedAt.is) c.refused-in-RefusedAt.ensures
+pub returns-in-Err-Sheet : goal.returns-in-Err-Sheet
+returns-in-Err-Sheet c =
+    let w = c.in-Err-Sheet in
+    sends_as (to_bytes_refused _ c.if-input-gt-INPUT.false _ (rw w.field-0-is at w.ensures)) c.refused-in-Err-Sheet.ensures
 
-pub returns-in-Refused : goal.returns-in-Refused
-returns-in-Refused c =
-    let r = c.read-r in
-    sends_as (to_bytes_refused _ r.result r.ensures c.if-input-gt-INPUT.false _ c.in-Refused.is) c.refused-in-Refused.ensures
-
-pub returns-in-Outside : goal.returns-in-Outside
-returns-in-Outside c =
-    let r = c.read-r in
-    sends_as (to_bytes_outside _ r.result r.ensures c.if-input-gt-INPUT.false _ c.in-Outside.is) c.outside.ensures
+pub returns-in-Err-Outside : goal.returns-in-Err-Outside
+returns-in-Err-Outside c =
+    let w = c.in-Err-Outside in
+    sends_as (to_bytes_outside _ c.if-input-gt-INPUT.false _ (rw w.field-0-is at w.ensures)) c.outside.ensures

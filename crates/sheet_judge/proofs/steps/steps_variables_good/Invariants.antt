@@ -1,7 +1,7 @@
 -- `sheet_judge::steps::steps_variables_good` meets its contract: the loop keeps that every step passed has a good variable.
 use mathlib.Core.Path.{◌≡◌}
 use mathlib.Core.Bool.{true}
-use Prim.Native.Nat.{◌≤◌, ◌-◌}
+use Prim.Native.Nat.{◌≤◌}
 use Rattle.base_lists.specs.Lists.{all}
 use Rattle.sheet_step.specs.Step.{step_variable}
 use Rattle.sheet_operator.specs.Memory.{steps_in}

@@ -1,7 +1,7 @@
 -- `sheet_sets::steps::steps_apart` meets its contract: the loop keeps that the steps passed name no variable of the set.
 use mathlib.Core.Path.{◌≡◌}
 use mathlib.Core.Bool.{true, not}
-use Prim.Native.Nat.{ℕ, ◌≤◌, ◌-◌}
+use Prim.Native.Nat.{ℕ, ◌≤◌}
 use Rattle.base_lists.specs.Lists.{all, has}
 use Rattle.sheet_step.specs.Step.{step_names}
 use Rattle.sheet_step.specs.declared.Step.{Step}

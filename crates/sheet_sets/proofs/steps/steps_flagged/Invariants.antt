@@ -1,7 +1,7 @@
 -- `sheet_sets::steps::steps_flagged` meets its contract: the loop keeps that the set has what the steps passed name.
 use mathlib.Core.Path.{◌≡◌}
 use mathlib.Core.Bool.{◌||◌}
-use Prim.Native.Nat.{ℕ, ◌≤◌, ◌-◌}
+use Prim.Native.Nat.{ℕ, ◌≤◌}
 use Rattle.base_lists.specs.Lists.{member, chain, has}
 use Rattle.sheet_step.specs.Step.{step_names}
 use Rattle.sheet_operator.specs.Memory.{steps_in}
