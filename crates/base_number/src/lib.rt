@@ -5,7 +5,7 @@ ghost use Rattle.std.specs.Prelude.{◌≡◌, ◌+◌, ◌<◌, ◌≤◌, leng
 ghost use Rattle.std.proofs.lemmas.List.Edits.{sets};
 ghost use Rattle.std.specs.Int.{w32};
 ghost use Rattle.std.proofs.Common.{to_z, of_z};
-ghost use Rattle.base_number.specs.Number.{short_of, short_bytes, bits_of, bits_bytes, int_of, int_bytes, wrap_add, between, is_zero};
+ghost use Rattle.base_number.specs.Number.{short_of, short_bytes, bits_of, bits_bytes, int_of, int_bytes, wrap_add, between};
 
 // The bits of a signed number, and back.
 pub fn signed(n: u32) -> i32
@@ -74,10 +74,4 @@ pub fn is_between(low: i32, x: i32, high: i32) -> bool
     ensures { result ≡ between low x high }
 {
     low <= x && x <= high
-}
-
-pub fn is_zero(z: i32) -> bool
-    ensures { result ≡ is_zero z }
-{
-    z == 0
 }

@@ -1,8 +1,9 @@
--- No two reasons have one number: a number tells which it is.
+-- No two reasons have one number, and none has the number 0.
 -- Assumes nothing.
 use mathlib.Core.Path.{◌≡◌, refl, sym, ap, ◌∙◌}
 use mathlib.Core.Bool.{cond}
-use Prim.Native.Nat.{ℕ}
+use Prim.Native.Nat.{ℕ, ◌≤◌}
+use native.Mathlib.Omega.{arith}
 use lib.Dec.{eqb}
 use Rattle.base_refusal.specs.declared.Reason.{Reason}
 use Rattle.base_refusal.specs.declared.Reason.TheVariants.{BadLength, BadKind, BadHead, BadQueue, QueueNotOnce, BadVariable, BadStep, BadState, WrongQueue, EmptyQueue, Waits, FullQueue, NotCalm, NoOperator, NoLine, TooLarge, Forbidden, TooShort}
@@ -52,3 +53,7 @@ reason_of_number TooShort = refl
 
 pub number_injective : (r s : Reason) → number_of r ≡ number_of s → r ≡ s
 number_injective r s e = sym (reason_of_number r) ∙ ap reason_of e ∙ reason_of_number s
+
+-- and none has the number 0
+pub some_number : (reason : Reason) → 1 ≤ number_of reason
+some_number reason = grind arith

@@ -4,14 +4,10 @@
 ghost use Rattle.std.specs.Prelude.{◌+◌, ◌*◌, ◌≤◌, ◌≡◌, ◌++◌, length, take};
 ghost use Rattle.base_lists.specs.Lists.{chain};
 ghost use Rattle.base_words.specs.Text.{word, PutsText};
-ghost use Rattle.std.specs.Option.{unwrap_or};
 ghost use Rattle.base_bounds.specs.Bounds.{FIELDS, ROOM};
-ghost use Rattle.base_refusal.specs.Refusal.{number_of};
 ghost use Rattle.run_store.specs.Store.{PART};
 ghost use Rattle.run_store.specs.Queues.{items_of};
 ghost use Rattle.bench_lines.specs.Lines.{spaced, item_line, queue_lines, variable_line, variable_lines, refusal_line, answer, counts_line, SPACED, LINE};
-
-use base_refusal::Refusal;
 
 const NEWLINE: u8 = 10;
 
@@ -32,9 +28,8 @@ fn put_fields(s: &mut [u8], at: usize, fields: &[i32]) -> usize
     ensures { PutsText (chain spaced fields.now) s.old at s.new result × (result ≤ at + SPACED * length fields.now) }
 {
     let mut end = at;
-    for i in 0..fields.len() {
-        let z = fields[i];
-        end = put_spaced(s, end, z);
+    for z in fields {
+        end = put_spaced(s, end, *z);
     }
     end
 }
@@ -56,13 +51,10 @@ pub fn put_items(s: &mut [u8], at: usize, q: u8, n: usize, part: &[i32]) -> usiz
     ensures { PutsText (queue_lines q (items_of n part.now)) s.old at s.new result × (result ≤ at + LINE * n) }
 {
     let mut end = at;
-    let mut left = n;
-    while 0 < left {
-        let i = n - left;
+    for i in 0..n {
         let from = run_store::FIELDS * i;
         let to = from + run_store::FIELDS;
         end = put_item(s, end, q, &part[from..to]);
-        left -= 1;
     }
     end
 }
@@ -91,15 +83,14 @@ pub fn put_variables(s: &mut [u8], at: usize, n: usize, vars: &[i32]) -> usize
     end
 }
 
-// A refusal, at record 0 where it names none.
-pub fn put_refusal(s: &mut [u8], at: usize, refusal: Refusal) -> usize
+pub fn put_refusal(s: &mut [u8], at: usize, number: u8, spot: usize) -> usize
     requires { at + LINE ≤ length s.old }
-    ensures { PutsText (refusal_line (number_of refusal.reason) (unwrap_or refusal.spot 0)) s.old at s.new result × (result ≤ at + LINE) }
+    ensures { PutsText (refusal_line number spot) s.old at s.new result × (result ≤ at + LINE) }
 {
     let a = base_words::put_word(s, at, b"refused ");
-    let b = base_words::put_natural(s, a, u8::from(refusal.reason) as usize);
+    let b = base_words::put_natural(s, a, number as usize);
     let d = base_words::put_word(s, b, b" at record ");
-    let e = base_words::put_natural(s, d, refusal.spot.unwrap_or(0));
+    let e = base_words::put_natural(s, d, spot);
     s[e] = NEWLINE;
     e + 1
 }

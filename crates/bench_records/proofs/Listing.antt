@@ -11,7 +11,7 @@ use borrow.Author.Tests.{eq-eqb, ne_eqb}
 use Rattle.std.specs.Prelude.{Ok, Err, Some}
 use Rattle.base_refusal.specs.declared.Reason.{Reason}
 use Rattle.base_refusal.specs.Refusal.{refusal}
-use Rattle.sheet.proofs.AnswerLaws.{some_number}
+use Rattle.base_refusal.proofs.Reasons.{some_number}
 use Rattle.bench_records.specs.Records.{queue_at, firing_bytes, Firings, unfired, firings, before, firing_number, firings_from}
 use Rattle.bench_records.specs.Looks.{FiredQueue, Listable, Lists}
 use Rattle.bench_records.proofs.RecordLaws.{firing_room}

@@ -19,7 +19,7 @@ use Rattle.sheet.specs.declared.Sheet.{Sheet}
 use Rattle.sheet.specs.Answer.{accepted}
 use Rattle.sheet.specs.Sheet.{view_sheet}
 use Rattle.sheet.specs.Check.{check_of}
-use Rattle.sheet.proofs.AnswerLaws as answers
+use Rattle.base_refusal.proofs.Reasons as reasons
 use Rattle.sheet.proofs.Accepted.{ranges_of_accepted}
 use Rattle.run_machine.specs.Machine.{Machine, Outcome, refuse, done, put_all, feed_m}
 use Rattle.run_machine.proofs.Firing.{feed_puts_one}
@@ -134,7 +134,7 @@ module _ {t : Sheet} {s : List ℕ} {from : ℕ} {counts : List ℕ} {at spot : 
         go : (o : Outcome) → feed_next (view_sheet t) r.machine (drop at s) ≡ o → number_of reason ≡ refusal_of o →
             Looks (feeds_after t start (drop from s)) s (Err (refusal reason (Some spot)))
         go (refuse k) e g = (rw g (passing_stops r.passing h k e), refl, omega (arith, looking_few, r.passing.inside))
-        go (done m) e g = absurd (omega (arith, answers.some_number reason))
+        go (done m) e g = absurd (omega (arith, reasons.some_number reason))
 
     -- the feed will be made
     pub looking_goes_on : (q : ℕ) → FedQueue t.inputs counts (drop at s) (Ok q) →

@@ -73,7 +73,7 @@ fn put_trial(s: &mut [u8], tried: Result<Tried, Refusal>, store: &[i32]) -> usiz
 {
     match tried {
         Ok(r) => put_figures(s, r, store),
-        Err(e) => bench_lines::put_refusal(s, 0, e),
+        Err(e) => bench_lines::put_refusal(s, 0, e.reason.into(), e.spot.unwrap_or(0)),
     }
 }
 

@@ -46,6 +46,10 @@ pub use Rattle.counts.proofs.CalmLaws.{calm_apart}
 pub use Rattle.counts.proofs.CalmLaws.{apart_calm}
 -- the paper's words: two answers that say the same are the same
 pub use Rattle.sheet.proofs.AnswerLaws.{paper_injective}
+-- with the same value, of any call
+pub use Rattle.sheet.proofs.AnswerLaws.{answer_injective}
+-- two refusals of the same number are the same
+pub use Rattle.base_refusal.proofs.Reasons.{number_injective}
 -- one outcome: two answers that meet the contract of the check are equal
 pub use Rattle.sheet.proofs.OneOutcome.{check_one}
 -- two answers that meet the contract of reading the head and the operators are equal

@@ -10,7 +10,7 @@ use borrow.Author.Tests.{eq-eqb, ne_eqb}
 use Rattle.std.specs.Prelude.{Ok, Err}
 use Rattle.base_number.specs.Number.{short_of}
 use Rattle.base_refusal.specs.declared.Reason.{Reason}
-use Rattle.base_refusal.specs.declared.Reason.TheVariants.{BadLength, BadKind, BadHead, BadQueue, QueueNotOnce, BadVariable, BadStep, BadState, WrongQueue, EmptyQueue, Waits, FullQueue, NotCalm, NoOperator, NoLine, TooLarge, Forbidden, TooShort}
+use Rattle.base_refusal.proofs.Reasons.{some_number}
 use Rattle.base_refusal.specs.Refusal.{number_of}
 use Rattle.sheet_operator.specs.Op.{Op, Abstract, with}
 use Rattle.sheet_operator.specs.Memory.{is_empty, memory, view, Ready}
@@ -64,27 +64,6 @@ module _ (s : List ℕ) (o : Operator) (z : refusal_in (taken s) ≡ 0) (e : o �
   view_of_taken : view o ≡ op_in (taken s)
   view_of_taken = ap view e ∙ view_memory (op_in (taken s)) small
 
--- no reason has the number 0
-pub some_number : (reason : Reason) → number_of reason ≡ 0 → ⊥
-some_number BadLength e = omega arith
-some_number BadKind e = omega arith
-some_number BadHead e = omega arith
-some_number BadQueue e = omega arith
-some_number QueueNotOnce e = omega arith
-some_number BadVariable e = omega arith
-some_number BadStep e = omega arith
-some_number BadState e = omega arith
-some_number WrongQueue e = omega arith
-some_number EmptyQueue e = omega arith
-some_number Waits e = omega arith
-some_number FullQueue e = omega arith
-some_number NotCalm e = omega arith
-some_number NoOperator e = omega arith
-some_number NoLine e = omega arith
-some_number TooLarge e = omega arith
-some_number Forbidden e = omega arith
-some_number TooShort e = omega arith
-
 -- the record at a place, where it is refused as it is taken
 pub next_bad : (queues variables : ℕ) (seen : Seen) (s : List ℕ) (at : ℕ) (reason : Reason) → Takes s at (record_answered (Err reason)) →
     ReadsOperator queues variables seen s at (Err reason)
@@ -92,7 +71,7 @@ next_bad queues variables seen s at reason t = bad_as (taken (drop at s)) t.numb
   where
     bad_as : (x : Taken) → number_of reason ≡ refusal_in x → number_of_next queues variables seen x ≡ number_of reason
     bad_as (bad n) e = sym e
-    bad_as (took o rest) e = absurd (some_number reason e)
+    bad_as (took o rest) e = absurd (omega (arith, some_number reason))
 
 -- and where it is taken, as the judge says
 module _ (queues variables : ℕ) (seen : Seen) (s : List ℕ) (at : ℕ) (r : TakenRecord) (t : Takes s at (record_answered (Ok r))) where
@@ -190,7 +169,7 @@ module _ {s : List ℕ} {n queues variables : ℕ} {t : Sheet} {seen : Seen} {at
   pub read_stops : (reason : Reason) → i < n → ReadsOperator queues variables seen s at (Err reason) → front_of s ≡ stopped (number_of reason) (i + 1)
   read_stops reason l h =
       let e = sym (same_number (taken (drop at s))) ∙ h in
-      sym r.left ∙ read_stop n i r.ops (drop at s) l (λ z. some_number reason (sym e ∙ z)) ∙ ap (λ (k : ℕ). stopped k (next_record r.ops)) e
+      sym r.left ∙ read_stop n i r.ops (drop at s) l (λ z. omega (arith, some_number reason)) ∙ ap (λ (k : ℕ). stopped k (next_record r.ops)) e
       ∙ ap (λ (k : ℕ). stopped (number_of reason) (k + 1)) r.count
 
   pub read_goes_on : (o : ReadOperator) → i < n → ReadsOperator queues variables seen s at (Ok o) →

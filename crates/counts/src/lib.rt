@@ -49,11 +49,10 @@ pub fn calm(t: Sheet) -> Result<bool, Refusal>
 fn count_at(w: [u64; QUEUES], q: u8) -> u64
     ensures { result ≡ get_or w q 0 }
 {
-    let i = q as usize;
-    if i < QUEUES {
-        return w[i];
+    match w.get(q as usize) {
+        Some(n) => *n,
+        None => 0,
     }
-    0
 }
 
 fn counted(w: [u64; QUEUES], q: u8, n: u64) -> [u64; QUEUES]
@@ -130,22 +129,13 @@ fn operator_counts(w: [u64; QUEUES], o: Operator) -> [u64; QUEUES]
     requires { Ready o × ((q : ℕ) → get_or w q 0 ≤ 2 ^ 60) }
     ensures { result ≡ worst_op w (view o) }
 {
-    let k = o.kind;
     let n = o.count as usize;
-    match k {
-        Kind::Empty => w,
+    match o.kind {
+        Kind::Empty | Kind::Latest => w,
         Kind::Line => line_counts(w, o),
-        Kind::Latest => w,
         Kind::Double => double_counts(w, o),
-        Kind::Deal => {
-            let qs = o.outs;
-            deal_counts(w, count_at(w, o.ins[0]), qs, n)
-        }
-        Kind::Gather => {
-            let ps = o.ins;
-            let m = gather_count(w, ps, n);
-            counted(w, o.outs[0], m)
-        }
+        Kind::Deal => deal_counts(w, count_at(w, o.ins[0]), o.outs, n),
+        Kind::Gather => counted(w, o.outs[0], gather_count(w, o.ins, n)),
     }
 }
 
@@ -153,18 +143,14 @@ fn operator_counts(w: [u64; QUEUES], o: Operator) -> [u64; QUEUES]
 fn fed_good(inputs: usize, q: usize, n: u64) -> bool
     ensures { result ≡ cond (ltb q inputs) (leb n ROOM) (eqb n 0) }
 {
-    if q < inputs {
-        return n <= ROOM;
-    }
-    n == 0
+    if q < inputs { n <= ROOM } else { n == 0 }
 }
 
 fn feed_good(inputs: u8, fed: [u64; QUEUES]) -> bool
     ensures { result ≡ feed_good inputs fed }
 {
     for q in 0..QUEUES {
-        let n = fed[q];
-        if !fed_good(inputs as usize, q, n) {
+        if !fed_good(inputs as usize, q, fed[q]) {
             return false;
         }
     }

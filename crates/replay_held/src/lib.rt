@@ -4,7 +4,7 @@
 ghost use Rattle.std.specs.Prelude.{◌<◌, ◌≡◌};
 ghost use Rattle.std.specs.Result.{result_unwrap_or};
 ghost use Rattle.run_machine.specs.Calls.{fresh_state};
-ghost use Rattle.replay_held.specs.Held.{names_place, CountSet, VariableSet, NumberSet};
+ghost use Rattle.replay_held.specs.Held.{NamesPlace, CountSet, VariableSet, NumberSet};
 
 use run_machine::State;
 use sheet::Sheet;
@@ -31,15 +31,10 @@ fn first_state() -> State
 }
 
 // What is held at the start.
-pub fn first() -> Holding
-    ensures { result.used ≡ 0 }
-{
-    let sheet = first_sheet();
-    let state = first_state();
+pub fn first() -> Holding {
     Holding {
-        sheet,
-        state,
-        used: 0,
+        sheet: first_sheet(),
+        state: first_state(),
     }
 }
 
@@ -50,79 +45,45 @@ pub fn kept<E: Copy>(answer: Result<Sheet, E>, old: Sheet) -> Sheet
     answer.unwrap_or(old)
 }
 
-// What is held between calls, and how many bytes of text wait.
+// What is held between calls.
 #[derive(Clone, Copy)]
 pub struct Holding {
     pub sheet: Sheet,
     pub state: State,
-    pub used: usize,
 }
 
-// A state, and how many bytes of text wait.
-#[derive(Clone, Copy)]
-pub struct Stated {
-    pub state: State,
-    pub used: usize,
-}
-
-// The state with one number of it set, or as it was where the body is bad.
-#[derive(Clone, Copy)]
-pub struct Set {
-    pub good: bool,
-    pub state: State,
-}
-
-fn wide(b: u8) -> usize
-    ensures { result ≡ b }
-{
-    b as usize
-}
-
-// A body of n bytes, the first of which names a place.
-fn names(body: &[u8], n: usize, places: usize) -> bool
+// The place that a body of n bytes names with its first, where it is one of the places.
+fn place_in(body: &[u8], n: usize, places: usize) -> Option<usize>
     requires { 0 < n }
-    ensures { result ≡ names_place body.now n places }
+    ensures { NamesPlace body.now n places result }
 {
-    if body.len() != n {
-        return false;
+    if body.len() == n && usize::from(body[0]) < places {
+        return Some(usize::from(body[0]));
     }
-    wide(body[0]) < places
+    None
 }
 
-// 15
-pub fn set_count(body: &[u8], state: State) -> Set
-    ensures { CountSet body.now state result.good result.state }
+// 15: the state with one count set, where the body is good.
+pub fn set_count(body: &[u8], state: State) -> Option<State>
+    ensures { CountSet body.now state result }
 {
-    if !names(body, 2, run_machine::QUEUES) {
-        return Set { good: false, state };
-    }
-    let q = wide(body[0]);
+    let q = place_in(body, 2, run_machine::QUEUES)?;
     let mut next = state;
     next.counts[q] = body[1];
-    Set {
-        good: true,
-        state: next,
-    }
+    Some(next)
 }
 
-// 16
-pub fn set_variable(body: &[u8], state: State) -> Set
-    ensures { VariableSet body.now state result.good result.state }
+// 16: the state with one variable set, where the body is good.
+pub fn set_variable(body: &[u8], state: State) -> Option<State>
+    ensures { VariableSet body.now state result }
 {
-    if !names(body, 5, run_machine::VARIABLES) {
-        return Set { good: false, state };
-    }
-    let v = wide(body[0]);
-    let z = base_number::int_at(body, 1);
+    let v = place_in(body, 5, run_machine::VARIABLES)?;
     let mut next = state;
-    next.vars[v] = z;
-    Set {
-        good: true,
-        state: next,
-    }
+    next.vars[v] = base_number::int_at(body, 1);
+    Some(next)
 }
 
-// 17
+// 17: one number of the store set; whether the body is good.
 pub fn set_number(body: &[u8], store: &mut [i32]) -> bool
     ensures { NumberSet body.now store.old result store.new }
 {
@@ -133,7 +94,6 @@ pub fn set_number(body: &[u8], store: &mut [i32]) -> bool
     if store.len() <= place {
         return false;
     }
-    let z = base_number::int_at(body, 2);
-    store[place] = z;
+    store[place] = base_number::int_at(body, 2);
     true
 }

@@ -1,64 +1,38 @@
 // The calls on a state, 9 to 12, made and printed as those on a sheet.
 #![tactic(auto)]
 
-ghost use Rattle.std.specs.Prelude.{◌+◌, ◌*◌, ◌<◌, ◌≡◌, length};
+ghost use Rattle.std.specs.Prelude.{◌+◌, ◌*◌, ◌≡◌, length};
 ghost use Rattle.std.specs.Result.{result_unwrap_or};
 ghost use Rattle.base_bounds.specs.Bounds.{FIELDS};
 
 use base_refusal::Refusal;
-use replay_held::Stated;
-use replay_printer::{put_bad, put_item, put_line, put_refusal, put_text};
-use run_machine::{State, TakenItem};
+use replay_printer::Printer;
+use run_machine::State;
 use run_store::Item;
 use sheet::Sheet;
 
 // The body of a feed: a queue, and four bytes for each field.
 const FEED: usize = 1 + 4 * run_store::FIELDS;
 
-fn bad_state(state: State, out: &mut [u8], used: usize) -> Stated
-    requires { used < length out.old }
-    ensures { result.used < length out.new }
+// A call that may leave another state: its answer is printed, and the state is the new one where it was done, else the one before.
+fn done_state(answer: Result<State, Refusal>, before: State, out: &mut Printer<'_>) -> State
+    ensures { result ≡ result_unwrap_or answer before }
 {
-    let used = put_bad(&mut *out, used);
-    Stated { state, used }
-}
-
-// A call that may leave another state: the new one where it was done, else the one before.
-fn done_state(answer: Result<State, Refusal>, before: State, out: &mut [u8], used: usize) -> Stated
-    requires { used < length out.old }
-    ensures state { result.state ≡ result_unwrap_or answer before }
-    ensures bound { result.used < length out.new }
-{
-    let used = match answer {
-        Ok(_) => put_line(&mut *out, used, b"done"),
-        Err(e) => put_refusal(&mut *out, used, e),
-    };
-    Stated {
-        state: answer.unwrap_or(before),
-        used,
+    match answer {
+        Ok(_) => out.line(b"done"),
+        Err(e) => out.refusal(e),
     }
+    answer.unwrap_or(before)
 }
 
 // 9
-pub fn call_fresh(
-    body: &[u8],
-    state: State,
-    store: &mut [i32],
-    out: &mut [u8],
-    used: usize,
-) -> Stated
-    requires { used < length out.old }
-    ensures { result.used < length out.new }
-{
-    if body.len() != 2 {
-        return bad_state(state, &mut *out, used);
+pub fn call_fresh(body: &[u8], state: State, store: &mut [i32], out: &mut Printer<'_>) -> State {
+    if body.len() != 2 || store.len() < base_number::short_at(body, 0) {
+        out.bad();
+        return state;
     }
     let n = base_number::short_at(body, 0);
-    if store.len() < n {
-        return bad_state(state, &mut *out, used);
-    }
-    let answer = runner::fresh(&mut store[..n]);
-    done_state(answer, state, &mut *out, used)
+    done_state(runner::fresh(&mut store[..n]), state, out)
 }
 
 // The fields behind a body's first byte.
@@ -69,8 +43,7 @@ fn item(body: &[u8]) -> Item
         f: [0; run_store::FIELDS],
     };
     for i in 0..run_store::FIELDS {
-        let z = base_number::int_at(body, 1 + 4 * i);
-        x.f[i] = z;
+        x.f[i] = base_number::int_at(body, 1 + 4 * i);
     }
     x
 }
@@ -81,18 +54,14 @@ pub fn call_feed(
     t: Sheet,
     state: State,
     store: &mut [i32],
-    out: &mut [u8],
-    used: usize,
-) -> Stated
-    requires { used < length out.old }
-    ensures { result.used < length out.new }
-{
+    out: &mut Printer<'_>,
+) -> State {
     if body.len() != FEED {
-        return bad_state(state, &mut *out, used);
+        out.bad();
+        return state;
     }
-    let x = item(body);
-    let answer = runner::feed(t, state, &mut *store, body[0], x);
-    done_state(answer, state, &mut *out, used)
+    let answer = runner::feed(t, state, &mut *store, body[0], item(body));
+    done_state(answer, state, out)
 }
 
 // 11
@@ -101,33 +70,22 @@ pub fn call_take(
     t: Sheet,
     state: State,
     store: &mut [i32],
-    out: &mut [u8],
-    used: usize,
-) -> Stated
-    requires { used < length out.old }
-    ensures { result.used < length out.new }
-{
+    out: &mut Printer<'_>,
+) -> State {
     if body.len() != 1 {
-        return bad_state(state, &mut *out, used);
+        out.bad();
+        return state;
     }
     match runner::take(t, state, &mut *store, body[0]) {
-        Ok(taken) => put_taken(taken, &mut *out, used),
-        Err(e) => {
-            let used = put_refusal(&mut *out, used, e);
-            Stated { state, used }
+        Ok(taken) => {
+            out.text(b"item");
+            out.item(taken.item);
+            taken.state
         }
-    }
-}
-
-fn put_taken(taken: TakenItem, out: &mut [u8], used: usize) -> Stated
-    requires { used < length out.old }
-    ensures { result.used < length out.new }
-{
-    let at = put_text(&mut *out, used, b"item");
-    let used = put_item(&mut *out, at, taken.item);
-    Stated {
-        state: taken.state,
-        used,
+        Err(e) => {
+            out.refusal(e);
+            state
+        }
     }
 }
 
@@ -137,15 +95,12 @@ pub fn call_fire(
     t: Sheet,
     state: State,
     store: &mut [i32],
-    out: &mut [u8],
-    used: usize,
-) -> Stated
-    requires { used < length out.old }
-    ensures { result.used < length out.new }
-{
+    out: &mut Printer<'_>,
+) -> State {
     if body.len() != 1 {
-        return bad_state(state, &mut *out, used);
+        out.bad();
+        return state;
     }
     let answer = runner::fire(t, state, &mut *store, body[0]);
-    done_state(answer, state, &mut *out, used)
+    done_state(answer, state, out)
 }

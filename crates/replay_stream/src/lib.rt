@@ -2,6 +2,7 @@
 #![tactic(auto)]
 
 ghost use Rattle.std.specs.Prelude.{◌≤◌, ◌+◌, ◌≡◌, length};
+ghost use Rattle.replay_stream.specs.Found.{Bodied};
 
 use std::io::Stdin;
 
@@ -17,21 +18,18 @@ pub struct Window {
     pub end: usize,
 }
 
-// What comes next: a call, the middle of one, or nothing.
+// What comes next: a call, whose body stands from `at` to `end`; the middle of one; or nothing.
 #[derive(Clone, Copy)]
 pub enum Found {
-    Call,
+    Call { call: u8, at: usize, end: usize },
     Cut,
     End,
 }
 
-// The body of the call that was found stands from `at` to `end`, and the window behind it.
+// What was found, and the bytes behind it.
 #[derive(Clone, Copy)]
 pub struct Next {
     pub found: Found,
-    pub call: u8,
-    pub at: usize,
-    pub end: usize,
     pub window: Window,
 }
 
@@ -40,12 +38,8 @@ fn to_front(input: &mut [u8], w: Window) -> usize
     requires { (w.at ≤ w.end) × (w.end ≤ length input.old) }
     ensures { result ≤ length input.new }
 {
-    let at = w.at;
-    let n = w.end - at;
-    for i in 0..n {
-        input[i] = input[at + i];
-    }
-    n
+    input.copy_within(w.at..w.end, 0);
+    w.end - w.at
 }
 
 // A window of n bytes or more, or of all that the input still has.
@@ -61,48 +55,58 @@ fn ready(stdin: Stdin, input: &mut [u8], w: Window, n: usize) -> Window
     Window { at: 0, end: f.end }
 }
 
-// No body, and the window. A call whose body is too long has the number 0, which is no call's.
-fn no_call(found: Found, at: usize, end: usize) -> Next
-    ensures { (result.at ≡ 0) × (result.end ≡ 0) × (result.window.at ≡ at) × (result.window.end ≡ end) }
+// A call whose body is too long: its number is 0, which is no call's, and it has no body.
+fn long_call(at: usize, end: usize) -> Next
+    ensures { (Bodied result.found 0) × (result.window.at ≡ at) × (result.window.end ≡ end) }
+{
+    Next {
+        found: Found::Call {
+            call: 0,
+            at: 0,
+            end: 0,
+        },
+        window: Window { at, end },
+    }
+}
+
+// No call, and no bytes behind it.
+fn no_call(found: Found) -> Next
+    ensures { (result.found ≡ found) × (result.window.at ≡ 0) × (result.window.end ≡ 0) }
 {
     Next {
         found,
-        call: 0,
-        at: 0,
-        end: 0,
-        window: Window { at, end },
+        window: Window { at: 0, end: 0 },
     }
 }
 
 // Passes over n bytes that were not read yet.
 fn pass_over(stdin: Stdin, input: &mut [u8], n: usize) -> Next
-    ensures body { (result.at ≤ result.end) × (result.end ≤ length input.new) }
+    ensures body { Bodied result.found (length input.new) }
     ensures window { (result.window.at ≤ result.window.end) × (result.window.end ≤ length input.new) }
 {
     let mut left = n;
     while 0 < left {
-        let m = base_input::more(stdin, &mut *input, 0);
-        let end = m.end;
+        let end = base_input::more(stdin, &mut *input, 0).end;
         if end == 0 {
-            return no_call(Found::Cut, 0, 0);
+            return no_call(Found::Cut);
         }
         if left < end {
-            return no_call(Found::Call, left, end);
+            return long_call(left, end);
         }
         left -= end;
     }
-    no_call(Found::Call, 0, 0)
+    long_call(0, 0)
 }
 
 // A call whose body of n bytes is too long: its bytes are passed over.
 fn too_long(stdin: Stdin, input: &mut [u8], w: Window, n: usize) -> Next
     requires { (w.at ≤ w.end) × (w.end ≤ length input.old) }
-    ensures body { (result.at ≤ result.end) × (result.end ≤ length input.new) }
+    ensures body { Bodied result.found (length input.new) }
     ensures window { (result.window.at ≤ result.window.end) × (result.window.end ≤ length input.new) }
 {
     let there = w.end - w.at;
     if n <= there {
-        return no_call(Found::Call, w.at + n, w.end);
+        return long_call(w.at + n, w.end);
     }
     pass_over(stdin, &mut *input, n - there)
 }
@@ -110,20 +114,20 @@ fn too_long(stdin: Stdin, input: &mut [u8], w: Window, n: usize) -> Next
 // A call whose body of n bytes begins at the window.
 fn whole(stdin: Stdin, input: &mut [u8], before: Window, call: u8, n: usize) -> Next
     requires { (before.at ≤ before.end) × (before.end ≤ length input.old) }
-    ensures body { (result.at ≤ result.end) × (result.end ≤ length input.new) }
+    ensures body { Bodied result.found (length input.new) }
     ensures window { (result.window.at ≤ result.window.end) × (result.window.end ≤ length input.new) }
 {
     let w = ready(stdin, &mut *input, before, n);
-    let at = w.at;
-    if w.end - at < n {
-        return no_call(Found::Cut, 0, 0);
+    if w.end - w.at < n {
+        return no_call(Found::Cut);
     }
-    let end = at + n;
+    let end = w.at + n;
     Next {
-        found: Found::Call,
-        call,
-        at,
-        end,
+        found: Found::Call {
+            call,
+            at: w.at,
+            end,
+        },
         window: Window {
             at: end,
             end: w.end,
@@ -140,22 +144,21 @@ fn length_at(input: &[u8], at: usize) -> usize
 // The next call of the stream.
 pub fn next_call(stdin: Stdin, input: &mut [u8], before: Window) -> Next
     requires { (before.at ≤ before.end) × (before.end ≤ length input.old) }
-    ensures body { (result.at ≤ result.end) × (result.end ≤ length input.new) }
+    ensures body { Bodied result.found (length input.new) }
     ensures window { (result.window.at ≤ result.window.end) × (result.window.end ≤ length input.new) }
 {
     let w = ready(stdin, &mut *input, before, HEAD);
-    let at = w.at;
-    let there = w.end - at;
+    let there = w.end - w.at;
     if there == 0 {
-        return no_call(Found::End, 0, 0);
+        return no_call(Found::End);
     }
     if there < HEAD {
-        return no_call(Found::Cut, 0, 0);
+        return no_call(Found::Cut);
     }
-    let n = length_at(&*input, at);
-    let call = input[at + 4];
+    let n = length_at(&*input, w.at);
+    let call = input[w.at + 4];
     let behind = Window {
-        at: at + HEAD,
+        at: w.at + HEAD,
         end: w.end,
     };
     if MOST < n {

@@ -22,7 +22,8 @@ use Rattle.sheet.specs.declared.Sheet.{Sheet}
 use Rattle.sheet.specs.Answer.{accepted}
 use Rattle.sheet.specs.Sheet.{op_at, view_sheet, HeldSheet}
 use Rattle.sheet.specs.Check.{check_of}
-use Rattle.sheet.proofs.AnswerLaws.{some_number, none_apart}
+use Rattle.sheet.proofs.AnswerLaws.{none_apart}
+use Rattle.base_refusal.proofs.Reasons.{some_number}
 use Rattle.sheet.proofs.Accepted.{ranges_of_accepted}
 use Rattle.sheet.proofs.Placed.{ops_many, ops_at}
 use Rattle.sheet.proofs.InMemory.{operator_back}

@@ -15,15 +15,7 @@ use sheet_operator::{Kind, Operator};
 pub fn is_line(o: Operator) -> bool
     ensures { result ≡ is_line (view o) }
 {
-    let k = o.kind;
-    match k {
-        Kind::Empty => false,
-        Kind::Line => true,
-        Kind::Latest => false,
-        Kind::Double => false,
-        Kind::Deal => false,
-        Kind::Gather => false,
-    }
+    matches!(o.kind, Kind::Line)
 }
 
 // The place of the line that reads the out queue of operator a: 14 where there is no such operator,

@@ -2,32 +2,29 @@
 -- Assumes nothing.
 use mathlib.Core.Path.{◌≡◌, refl, sym, ap, ◌∙◌}
 use mathlib.Core.List.{List}
-use Prim.Native.Nat.{ℕ, ◌+◌, ◌-◌, ◌≤◌, ◌<◌, ◌%◌}
+use Prim.Native.Nat.{ℕ, ◌+◌, ◌-◌, ◌≤◌, ◌<◌}
 use native.Mathlib.Omega.{arith}
-use lib.Dec.{ltb}
 use lib.ListN.{length, get_or, drop, length-map}
 use lib.IntN.{ℤ}
 use Rattle.base_lists.specs.Lists.{bit}
 use Rattle.base_lists.proofs.Bits.{bit_le}
-use Rattle.sheet_operator.specs.Memory.{view}
-use Rattle.base_bounds.specs.Bounds.{OPERATORS, VARIABLES, QUEUES}
-use Rattle.std.specs.Prelude.{Result, Ok}
+use Rattle.sheet_operator.specs.declared.Operator.{Operator}
+use Rattle.base_bounds.specs.Bounds.{VARIABLES, QUEUES}
+use Rattle.std.specs.Prelude.{Option, Result, Ok}
 use Rattle.base_refusal.specs.declared.Refusal.{Refusal}
 use Rattle.sheet.specs.declared.Sheet.{Sheet}
 use Rattle.sheet.specs.Answer.{Paper, accepted, refused, is_accepted, paper}
-use Rattle.sheet.specs.Sheet.{op_at, view_sheet}
+use Rattle.sheet.specs.Sheet.{view_sheet}
 use Rattle.run_machine.specs.declared.State.{State}
 use Rattle.run_machine.specs.Machine.{Machine, Outcome, refuse, done, fire_m, Ran, ran_on, run_from, run_m}
 use Rattle.run_machine.specs.Numbers.{decode, state_of, store_in, GoodM}
 use Rattle.run_machine.specs.Calls.{saved, run_known}
 use Rattle.run_machine.specs.Answers.{RunAnswers}
-use Rattle.run_machine.specs.Readers.{readers_of}
-use Rattle.run_machine.specs.Working.{Stands, fire_found, lent, state_with, LentAnswers}
+use Rattle.run_machine.specs.Working.{Stands, fire_reader, lent, state_with, LentAnswers}
 use Rattle.run_machine.proofs.Good.{decode_of_encode, encode_of_decode, good_of_machine, machine_of_good}
 use Rattle.run_machine.proofs.Keeps.{fire_keeps}
 use Rattle.run_machine.proofs.RunLaws.{run_next, run_end}
 use Rattle.run_machine.proofs.Sound.{sound_of_accepted}
-use Rattle.run_machine.proofs.Found.{fire_as_found}
 
 abbrev pub ran_with : ℕ → ℕ → Machine → Ran
 ran_with fired skipped m = record { fired = fired; skipped = skipped; machine = m }
@@ -89,14 +86,13 @@ module _ (t : Sheet) (st₀ : State) (s₀ : List ℤ) (l : List ℕ) where
     after_turn q (refuse j) p st' s' n h a e f b = after_refused j p st' s' n a e f b
     after_turn q (done m) p st' s' n h a e f b = after_done q m p st' s' n h a e f b
 
-    -- one turn: the entry's operator, as the code finds it, fires or is skipped
-    pub running_turn : (rs : List ℕ) (i : ℕ) → rs ≡ readers_of (view_sheet t).ops → i ≡ get_or rs (get_or l k 0) OPERATORS →
+    -- one turn: the entry's reader, as the code finds it, fires or is skipped
+    pub running_turn : (reader : Option Operator) → fire_reader reader (decode st s) (get_or l k 0) ≡ fire_m (view_sheet t) (decode st s) (get_or l k 0) →
         (x : Result (Unit {0}) Refusal) (cs : List ℕ) (vs s' : List ℤ) (n : ℕ) → k < length l →
-        LentAnswers (λ (m : Machine). fire_found (ltb i OPERATORS) (view (op_at t (i % OPERATORS))) m (get_or l k 0))
+        LentAnswers (λ (m : Machine). fire_reader reader m (get_or l k 0))
         (lent st.counts st.vars s) x (lent cs vs s') →
         n ≡ bit (is_accepted (paper x)) → Running t st₀ s₀ l (state_with cs vs) s' (fired + n) (skipped + (1 - n)) (k + 1)
-    running_turn rs i e d x cs vs s' n b a c =
-        let g = fire_as_found t (get_or l k 0) i rs e d r.stands.sheet (decode st s) in
+    running_turn reader g x cs vs s' n b a c =
         let f = after_turn (get_or l k 0) _ (paper x) (state_with cs vs) s' n (sym g) a.answered a.stated a.stored c in
         record {
           stands = f.stands;

@@ -23,11 +23,10 @@ pub fn fire_known(t: Sheet, q: u8, state: State, store: &mut [i32]) -> Result<St
 {
     let rs = run_reader::readers(t);
     let i = run_reader::reader_at(rs, q);
-    let o = t.operators[i % sheet::OPERATORS];
+    let reader = t.operators.get(i).copied();
     let mut counts = state.counts;
     let mut vars = state.vars;
-    let found = i < sheet::OPERATORS;
-    run_machine::fire_found(found, o, q, &mut counts, &mut vars, &mut *store)?;
+    run_machine::fire_reader(reader, q, &mut counts, &mut vars, &mut *store)?;
     Ok(State { counts, vars })
 }
 
@@ -59,11 +58,7 @@ fn is_output(t: Sheet, q: u8) -> bool
     requires { check_of t ≡ accepted }
     ensures { result ≡ is_output (view_sheet t) q }
 {
-    if t.queues <= q {
-        return false;
-    }
-    let rs = run_reader::readers(t);
-    run_reader::reader_at(rs, q) == sheet::OPERATORS
+    q < t.queues && run_reader::reader_at(run_reader::readers(t), q) == sheet::OPERATORS
 }
 
 // Takes the oldest item of an output.
@@ -111,15 +106,8 @@ pub fn run_known(t: Sheet, state: State, store: &mut [i32], list: &[u8]) -> RunE
     for k in 0..list.len() {
         let q = list[k];
         let i = run_reader::reader_at(rs, q);
-        let o = t.operators[i % sheet::OPERATORS];
-        let a = run_machine::fire_found(
-            i < sheet::OPERATORS,
-            o,
-            q,
-            &mut counts,
-            &mut vars,
-            &mut *store,
-        );
+        let reader = t.operators.get(i).copied();
+        let a = run_machine::fire_reader(reader, q, &mut counts, &mut vars, &mut *store);
         let n = one_if_done(a);
         fired += n;
         skipped += 1 - n;

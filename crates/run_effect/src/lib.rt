@@ -72,7 +72,7 @@ fn add(x: Flow, p: usize, low: i32) -> Flow
     requires { p < FIELDS }
     ensures { result ≡ with_field x p (add_of (field_of x p) low) }
 {
-    with_field(x, p, field(x, p).wrapping_add(low))
+    with_field(x, p, base_number::wrap_add(field(x, p), low))
 }
 
 // Field r becomes field p.
@@ -88,7 +88,7 @@ fn count(x: Flow, v: usize, p: usize) -> Flow
     requires { (v < VARIABLES) × (p < FIELDS) }
     ensures { result ≡ with_field (with_var x v (count_of (var_of x v))) p (count_of (var_of x v)) }
 {
-    let n = x.vars[v].wrapping_add(1);
+    let n = base_number::wrap_add(x.vars[v], 1);
     let mut y = x;
     y.vars[v] = n;
     with_field(y, p, n)

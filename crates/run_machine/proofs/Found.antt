@@ -4,31 +4,36 @@ use mathlib.Core.Path.{◌≡◌, refl, sym, ap, ◌∙◌}
 use mathlib.Core.Logic.{⊎_elim}
 use mathlib.Core.Bool.{Bool, true, false}
 use mathlib.Core.List.{List, []}
-use Prim.Native.Nat.{ℕ, ◌+◌, ◌<◌, ◌≤◌, ◌%◌}
-use native.Mathlib.Nat.{mod-eq_of_lt, sub-zero}
+use Prim.Native.Nat.{ℕ, ◌+◌, ◌<◌, ◌≤◌}
+use native.Mathlib.Nat.{sub-zero}
 use native.Mathlib.Omega.{arith}
 use lib.Dec.{ltb}
 use lib.IntN.{ℤ}
 use lib.ListN.{length, get_or, get_or-eq_default}
-use borrow.Author.Tests.{ltb-true}
+use borrow.Author.Tests.{ltb-true, ltb-false, lt-ltb}
+use denote.Ref.{Bor}
+use Rattle.std.specs.Prelude.{Option, Some, None, IfSome, slice_get, option_copied}
+use Rattle.std.specs.Slice.{IsItemAt}
+use Rattle.std.proofs.lemmas.Option.{slice_get-get_or, slice_get_past, slice_get_read}
 use Rattle.base_lists.specs.Lists.{member}
 use Rattle.base_lists.proofs.Build.{order, never, build_get_or}
 use Rattle.sheet_operator.specs.Op.{Op, gather, reads}
 use Rattle.sheet_operator.specs.Memory.{view}
+use Rattle.sheet_operator.specs.declared.Operator.{Operator}
 use Rattle.base_bounds.specs.Bounds.{OPERATORS, QUEUES}
 use Rattle.sheet.specs.declared.Sheet.{Sheet}
 use Rattle.sheet.specs.Answer.{accepted}
-use Rattle.sheet.specs.Sheet.{op_at, view_sheet}
+use Rattle.sheet.specs.Sheet.{missing, op_at, view_sheet}
 use Rattle.sheet.specs.Check.{check_of}
 use Rattle.sheet.proofs.Laws.{read_below}
 use Rattle.sheet.proofs.Accepted.{ranges_of_accepted}
 use Rattle.sheet.proofs.Placed.{ops_many}
 use Rattle.run_machine.specs.declared.State.{State}
-use Rattle.run_machine.specs.Machine.{Machine, fire_m}
+use Rattle.run_machine.specs.Machine.{Machine, fire_op, fire_m}
 use Rattle.run_machine.specs.Readers.{reader_from, readers_of}
-use Rattle.run_machine.specs.Working.{Stands, CanFire, fire_found}
+use Rattle.run_machine.specs.Working.{Stands, CanFire, fire_reader}
 use Rattle.run_machine.proofs.AbleOf.{can_fire_of_stands}
-use Rattle.run_machine.proofs.ReaderLaws.{is_read, reader_any, reader_found, reader_reads, fire_by_table}
+use Rattle.run_machine.proofs.ReaderLaws.{is_read, reader_any, reader_found, reader_reads, fire_found, fire_by_table}
 
 -- an operator that reads nothing, as what stands past the last
 abbrev idle : Op
@@ -67,35 +72,51 @@ module _ (t : Sheet) (h : check_of t ≡ accepted) where
   found_within : (q : ℕ) → ltb (table_at t q) OPERATORS ≡ true → table_at t q < t.count
   found_within q f = omega (arith, ops_many t, read_within (view_sheet t).ops (table_at t q) q (found_in q f))
 
-  -- the operator that the code loads is the one at the reader's place
-  loaded : (q : ℕ) → ltb (table_at t q) OPERATORS ≡ true → get_or (view_sheet t).ops (table_at t q) idle ≡ view (op_at t (table_at t q % OPERATORS))
-  loaded q f =
-      at idle (table_at t q) (found_within q f)
-      ∙ ap (λ (i : ℕ). view (op_at t i)) (sym (mod-eq_of_lt (ltb-true (table_at t q) OPERATORS f)))
+  pub found_reads : (q : ℕ) → ltb (table_at t q) OPERATORS ≡ true → (table_at t q < t.count) × (member q (reads (view (op_at t (table_at t q)))) ≡ true)
+  found_reads q f =
+      let l = found_within q f in
+      (l, sym (ap (λ (o : Op). member q (reads o)) (at idle (table_at t q) l)) ∙ found_in q f)
 
-  pub found_reads : (q : ℕ) → ltb (table_at t q) OPERATORS ≡ true → (table_at t q < t.count) × (member q (reads (view (op_at t (table_at t q % OPERATORS)))) ≡ true)
-  found_reads q f = (found_within q f, sym (ap (λ (o : Op). member q (reads o)) (loaded q f)) ∙ found_in q f)
+  -- the operator that the code gets, if there is one, is the one at the reader's place
+  same_found : length t.operators ≡ OPERATORS → (m : Machine) (q : ℕ) (b : Bool) → ltb (table_at t q) OPERATORS ≡ b →
+      fire_reader (slice_get t.operators (table_at t q)) m q ≡ fire_found b (get_or (view_sheet t).ops (table_at t q) idle) m q
+  same_found n m q true f =
+      let l = found_within q f in
+      ap (λ (r : Option Operator). fire_reader r m q)
+      (slice_get-get_or t.operators (table_at t q) missing (omega (arith, n, ltb-true (table_at t q) OPERATORS f)))
+      ∙ ap (λ (o : Op). fire_op o m q) (sym (at idle (table_at t q) l))
+  same_found n m q false f =
+      ap (λ (r : Option Operator). fire_reader r m q)
+      (slice_get_past t.operators (table_at t q) (omega (arith, n, ltb-false (table_at t q) OPERATORS f)))
 
-  same_found : (m : Machine) (q : ℕ) (b : Bool) → ltb (table_at t q) OPERATORS ≡ b →
-      fire_found b (view (op_at t (table_at t q % OPERATORS))) m q ≡ fire_found b (get_or (view_sheet t).ops (table_at t q) idle) m q
-  same_found m q true f = ap (λ (o : Op). fire_found true o m q) (sym (loaded q f))
-  same_found m q false f = refl
-
-  pub found_fires : (m : Machine) (q : ℕ) → fire_found (ltb (table_at t q) OPERATORS) (view (op_at t (table_at t q % OPERATORS))) m q ≡ fire_m (view_sheet t) m q
-  found_fires m q =
-      same_found m q (ltb (table_at t q) OPERATORS) refl
+  pub found_fires : length t.operators ≡ OPERATORS → (m : Machine) (q : ℕ) → fire_reader (slice_get t.operators (table_at t q)) m q ≡ fire_m (view_sheet t) m q
+  found_fires n m q =
+      same_found n m q (ltb (table_at t q) OPERATORS) refl
       ∙ sym (fire_by_table (view_sheet t) m q idle (omega (arith, ops_many t, ranges_of_accepted t h)) (reads_in_table idle))
 
--- the same of the place i that the code finds in its table rs: firing there is firing, and what is found there can fire
-module _ (t : Sheet) (q i : ℕ) (rs : List ℕ) (e : rs ≡ readers_of (view_sheet t).ops) (d : i ≡ get_or rs q OPERATORS) where
+-- what is copied from the item at a place
+copied_at : {X : Type 0} (xs : List X) (i : ℕ) (b : Option (Bor X)) → IsItemAt xs i b → option_copied b ≡ slice_get xs i
+copied_at xs i None w = sym (slice_get_past xs i w.3)
+copied_at xs i (Some x) w = sym (slice_get_read xs (length xs) i x.now refl w.3.0 w.1)
+
+-- the same of the place i that the code finds in its table rs, and of r, what it copies from there: firing r is firing, and r can fire
+module _ (t : Sheet) (n : length t.operators ≡ OPERATORS) (q i : ℕ) (rs : List ℕ) (e : rs ≡ readers_of (view_sheet t).ops) (d : i ≡ get_or rs q OPERATORS)
+    (b : Option (Bor Operator)) (w : IsItemAt t.operators i b) (r : Option Operator) (c : r ≡ option_copied b) where
+  got : r ≡ slice_get t.operators i
+  got = c ∙ copied_at t.operators i b w
+
   reader_is : table_at t q ≡ i
   reader_is = sym (d ∙ ap (λ (r : List ℕ). get_or r q OPERATORS) e)
 
-  pub fire_as_found : check_of t ≡ accepted → (m : Machine) → fire_found (ltb i OPERATORS) (view (op_at t (i % OPERATORS))) m q ≡ fire_m (view_sheet t) m q
-  fire_as_found h m = ap (λ (k : ℕ). fire_found (ltb k OPERATORS) (view (op_at t (k % OPERATORS))) m q) (sym reader_is) ∙ found_fires t h m q
+  pub fire_as_found : check_of t ≡ accepted → (m : Machine) → fire_reader r m q ≡ fire_m (view_sheet t) m q
+  fire_as_found h m = ap (λ (x : Option Operator). fire_reader x m q) (got ∙ ap (slice_get t.operators) (sym reader_is)) ∙ found_fires t h n m q
 
-  pub can_fire_as_found : (st : State) (s : List ℤ) → Stands t st s → ltb i OPERATORS ≡ true → CanFire (op_at t (i % OPERATORS)) q st s
-  can_fire_as_found st s h f =
-      let p = found_reads t h.sheet q (ap (λ (k : ℕ). ltb k OPERATORS) reader_is ∙ f) in
-      let z : i % OPERATORS ≡ i = mod-eq_of_lt (ltb-true i OPERATORS f) in
-      can_fire_of_stands t st s q (i % OPERATORS) h (omega (arith, p.0, reader_is)) (rw reader_is at p.1)
+  pub can_fire_as_found : (st : State) (s : List ℤ) → Stands t st s → IfSome r (λ o. CanFire o q st s)
+  can_fire_as_found st s h =
+      ⊎_elim
+      (λ (l : i < OPERATORS).
+      let p = found_reads t h.sheet q (ap (λ (k : ℕ). ltb k OPERATORS) reader_is ∙ lt-ltb i OPERATORS l) in
+      rw (got, slice_get-get_or t.operators i missing (omega (arith, n)))
+      (can_fire_of_stands t st s q i h (omega (arith, p.0, reader_is)) (rw reader_is at p.1)))
+      (λ (l : OPERATORS ≤ i). rw (got, slice_get_past t.operators i (omega (arith, n))) tt)
+      (order i OPERATORS)

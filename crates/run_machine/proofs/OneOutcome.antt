@@ -10,8 +10,8 @@ use Rattle.std.specs.Prelude as std
 use Rattle.base_refusal.specs.declared.Reason.{Reason}
 use Rattle.base_refusal.specs.declared.Refusal.{Refusal}
 use Rattle.base_refusal.specs.Refusal.{number_or_zero}
-use Rattle.base_refusal.proofs.Reasons.{number_injective}
-use Rattle.sheet.proofs.AnswerLaws.{some_number, answer_injective}
+use Rattle.base_refusal.proofs.Reasons.{number_injective, some_number}
+use Rattle.sheet.proofs.AnswerLaws.{answer_injective}
 use Rattle.sheet_operator.specs.declared.Operator.{Operator}
 use Rattle.run_store.specs.declared.Item.{Item}
 use Rattle.run_store.specs.Store.{part, first_of}

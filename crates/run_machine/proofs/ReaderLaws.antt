@@ -18,9 +18,8 @@ use Rattle.base_lists.proofs.Tests.{neither, none_of_each, false_of, cond_le, co
 use Rattle.base_lists.proofs.Places.{get_or_next}
 use Rattle.sheet_operator.specs.Op.{Op, Abstract, reads}
 use Rattle.base_bounds.specs.Bounds.{OPERATORS, QUEUES}
-use Rattle.run_machine.specs.Machine.{Machine, refuse, fire_op, fire_first, fire_m, is_output}
+use Rattle.run_machine.specs.Machine.{Machine, Outcome, refuse, fire_op, fire_first, fire_m, is_output}
 use Rattle.run_machine.specs.Readers.{reader_from, readers_of, readers_with}
-use Rattle.run_machine.specs.Working.{fire_found}
 
 -- some operator reads q
 abbrev pub is_read : List Op → ℕ → Bool
@@ -75,6 +74,11 @@ reader_reads [] i q d h l = never l
 reader_reads (o ∷ os) i q d h l =
     reads_step o os i q (reader_from os (suc i) q) d (member q (reads o)) refl (reader_from_lem os (suc i) q (omega arith))
     (λ e. reader_reads os (suc i) q d (omega arith) (sym (ap (λ (b : Bool). b || is_read os q) e) ∙ l))
+
+-- firing an operator that was found, 9 where none was
+abbrev pub fire_found : Bool → Op → Machine → ℕ → Outcome
+fire_found true o m q = fire_op o m q
+fire_found false o m q = refuse 9
 
 -- firing is firing the reader
 fire_step : (o : Op) (os : List Op) (m : Machine) (i q r : ℕ) (d : Op) (b : Bool) → i < OPERATORS → suc i ≤ r →

@@ -1,5 +1,5 @@
 -- What the runner's inner functions ask and answer; the calls of Calls.antt are made of them.
-use Rattle.std.specs.Prelude.{ℕ, ◌+◌, ◌-◌, ◌<◌, ◌≡◌, Bool, true, false, List, [], ◌∷◌, length, get_or, set, ltb, ℤ}
+use Rattle.std.specs.Prelude.{ℕ, ◌+◌, ◌-◌, ◌<◌, ◌≡◌, true, false, List, [], ◌∷◌, length, get_or, set, ltb, ℤ}
 use Rattle.std.specs.Prelude as std
 use Rattle.base_lists.specs.Lists.{all, fresh}
 use Rattle.base_refusal.specs.declared.Reason.{Reason}
@@ -66,10 +66,10 @@ pub record CanFire (o : Operator) (q : ℕ) (st : State) (s : List ℤ) : Type 0
   pub size : length s ≡ STORE
   pub quiet : quiet_from s 0 st.counts ≡ true
 
--- firing an operator that was found, 9 where none was
-abbrev pub fire_found : Bool → Op → Machine → ℕ → Outcome
-fire_found true o m q = fire_op o m q
-fire_found false o m q = refuse 9
+-- firing a queue's reader, 9 where it has none
+abbrev pub fire_reader : std.Option Operator → Machine → ℕ → Outcome
+fire_reader (std.Some o) m q = fire_op (view o) m q
+fire_reader std.None m q = refuse 9
 
 -- what the firing of an operator is lent, and the state in it
 pub record Lent : Type 0 where

@@ -1,14 +1,14 @@
 // The machine in numbers: the state, and one firing from a queue. The runner's calls are made of these.
 #![tactic(auto)]
 
-ghost use Rattle.std.specs.Prelude.{◌≡◌, true, ◌<◌, ltb, leb, length, get_or};
+ghost use Rattle.std.specs.Prelude.{◌≡◌, true, ◌<◌, ltb, leb, length, get_or, IfSome};
 ghost use Rattle.base_lists.specs.Lists.{all, any};
 ghost use Rattle.sheet_operator.specs.Memory.{view};
 ghost use Rattle.run_store.specs.Store.{STORE};
 ghost use Rattle.base_bounds.specs.Bounds.{QUEUES, ROOM};
 ghost use Rattle.run_effect.specs.Effect.{puts_of};
 ghost use Rattle.run_machine.specs.Machine.{fire_op};
-ghost use Rattle.run_machine.specs.Working.{raw, put_raw, take_raw, puts_raw, state_with, Room, CanFire, fire_found, lent, LentAnswers, Attempts};
+ghost use Rattle.run_machine.specs.Working.{raw, put_raw, take_raw, puts_raw, state_with, Room, CanFire, fire_reader, lent, LentAnswers, Attempts};
 
 use base_refusal::{Reason, Refusal};
 use run_effect::{Effect, Puts};
@@ -58,8 +58,7 @@ pub fn is_full(counts: [u8; QUEUES], q: u8) -> bool
     requires { q < QUEUES }
     ensures { result ≡ leb ROOM (get_or counts q 0) }
 {
-    let i = q as usize;
-    ROOM <= counts[i]
+    ROOM <= counts[q as usize]
 }
 
 // Whether one of the queues to put on holds 64.
@@ -70,12 +69,7 @@ fn no_room(counts: [u8; QUEUES], puts: Puts) -> bool
     match puts {
         Puts::Nowhere => false,
         Puts::One(a) => is_full(counts, a),
-        Puts::Two(a, b) => {
-            if is_full(counts, a) {
-                return true;
-            }
-            is_full(counts, b)
-        }
+        Puts::Two(a, b) => is_full(counts, a) || is_full(counts, b),
     }
 }
 
@@ -171,22 +165,22 @@ fn fire_operator(
     Ok(())
 }
 
-// Fires the operator that was found, 9 where none was.
-pub fn fire_found(
-    found: bool,
-    o: Operator,
+// Fires a queue's reader, 9 where it has none.
+pub fn fire_reader(
+    reader: Option<Operator>,
     q: u8,
     counts: &mut [u8; QUEUES],
     vars: &mut [i32; VARIABLES],
     store: &mut [i32],
 ) -> Result<(), Refusal>
-    requires { (length counts.old ≡ QUEUES) × (found ≡ true → CanFire o q (state_with counts.old vars.old) store.old) }
-    ensures { LentAnswers (λ m. fire_found found (view o) m q)
+    requires { (length counts.old ≡ QUEUES)
+        × IfSome reader (λ o. CanFire o q (state_with counts.old vars.old) store.old) }
+    ensures { LentAnswers (λ m. fire_reader reader m q)
         (lent counts.old vars.old store.old) result
         (lent counts.new vars.new store.new) }
 {
-    if !found {
-        return Err(Reason::WrongQueue.into());
+    match reader {
+        Some(o) => fire_operator(o, q, &mut *counts, &mut *vars, &mut *store),
+        None => Err(Reason::WrongQueue.into()),
     }
-    fire_operator(o, q, &mut *counts, &mut *vars, &mut *store)
 }

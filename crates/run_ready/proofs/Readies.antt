@@ -3,25 +3,23 @@
 use mathlib.Core.Path.{◌≡◌, refl, sym, ap, ◌∙◌}
 use mathlib.Core.Bool.{Bool, true, false, cond}
 use mathlib.Core.List.{List, [], ◌∷◌}
-use Prim.Native.Nat.{ℕ, ◌+◌, ◌-◌, ◌*◌, ◌^◌, ◌%◌, ◌≤◌, ◌<◌}
+use Prim.Native.Nat.{ℕ, ◌+◌, ◌-◌, ◌*◌, ◌^◌, ◌≤◌, ◌<◌}
 use native.Mathlib.Omega.{arith}
-use lib.Dec.{eqb, ltb}
+use lib.Dec.{eqb}
 use lib.ListN.{get_or}
 use Rattle.base_lists.specs.Lists.{bit}
 use Rattle.sheet_operator.specs.Op.{Op, double}
-use Rattle.sheet_operator.specs.Memory.{view}
-use Rattle.base_bounds.specs.Bounds.{OPERATORS, QUEUES}
+use Rattle.base_bounds.specs.Bounds.{QUEUES}
 use Rattle.run_effect.specs.Effect.{effect, waits}
 use Rattle.sheet.specs.declared.Sheet.{Sheet}
 use Rattle.sheet.specs.Answer.{accepted}
-use Rattle.sheet.specs.Sheet.{op_at, view_sheet}
+use Rattle.sheet.specs.Sheet.{view_sheet}
 use Rattle.sheet.specs.Check.{check_of}
 use Rattle.run_store.specs.declared.Item.{Item}
 use Rattle.run_machine.specs.Machine.{Machine, Outcome, refuse, done, full, commit, fire_from, fire_op}
 use Rattle.run_machine.specs.Ready.{SET, accepts, ready_at, bits_from, ready_set}
-use Rattle.run_machine.specs.Working.{refusal_of, fire_found}
-use Rattle.run_machine.specs.Readers.{readers_of}
-use Rattle.run_machine.proofs.Found.{reads_in_table, fire_as_found}
+use Rattle.run_machine.specs.Working.{refusal_of}
+use Rattle.run_machine.proofs.Found.{reads_in_table}
 use Rattle.run_machine.proofs.ReaderLaws.{unread_past, fire_unread}
 use Rattle.run_machine.proofs.ReadyLaws.{bits_none, bits_down, bits_fit}
 
@@ -43,11 +41,8 @@ accepts_number o m q (x ∷ xs) =
     waited_number (waits o q m.vars) (commit m q xs (effect o x m.vars))
     (committed_number (full m.queues (effect o x m.vars).puts) _)
 
-pub bit_accepted : (found : Bool) (o : Op) (m : Machine) (q : ℕ) → found ≡ true → 0 ≡ refusal_of (fire_op o m q) →
-    1 ≡ bit (accepts (fire_found found o m q))
-bit_accepted found o m q h e =
-    sym (ap (λ (b : Bool). bit (accepts (fire_found b o m q))) h
-    ∙ ap bit (accepts_number o m q (get_or m.queues q []) ∙ ap (λ (k : ℕ). eqb k 0) (sym e)))
+pub bit_accepted : (o : Op) (m : Machine) (q : ℕ) → 0 ≡ refusal_of (fire_op o m q) → 1 ≡ bit (accepts (fire_op o m q))
+bit_accepted o m q e = sym (ap bit (accepts_number o m q (get_or m.queues q []) ∙ ap (λ (k : ℕ). eqb k 0) (sym e)))
 
 -- ---- the loop
 
@@ -57,11 +52,6 @@ ready_past t h m =
     let a = view_sheet t in
     sym (bits_none (ready_at a m) QUEUES (SET - QUEUES)
     (λ k l. ap accepts (fire_unread a.ops m k (unread_past a.ops (double 0 0 0) QUEUES k (reads_in_table t h (double 0 0 0)) l))))
-
--- the bit of the operator that was found is the queue's
-pub found_bit : (t : Sheet) → check_of t ≡ accepted → (m : Machine) (q i b : ℕ) (rs : List ℕ) → rs ≡ readers_of (view_sheet t).ops → i ≡ get_or rs q OPERATORS →
-    b ≡ bit (accepts (fire_found (ltb i OPERATORS) (view (op_at t (i % OPERATORS))) m q)) → b ≡ bit (ready_at (view_sheet t) m q)
-found_bit t h m q i b rs e d r = r ∙ ap (λ (o : Outcome). bit (accepts o)) (fire_as_found t q i rs e d h m)
 
 module _ (f : ℕ → Bool) (q set : ℕ) (p : 0 < q) (l : q ≤ SET) (e : set ≡ bits_from f q (SET - q)) where
   -- a turn

@@ -3,7 +3,7 @@
 use mathlib.Core.Path.{◌≡◌, refl, ap, sym}
 use mathlib.Core.Bool.{Bool, true, false, cond}
 use mathlib.Core.Option.{Option, some, none}
-use Prim.Native.Nat.{ℕ, ◌≤◌}
+use Prim.Native.Nat.{ℕ}
 use native.Mathlib.Omega.{arith}
 use Rattle.std.specs.Prelude.{Result, Ok, Err, Some, None}
 use Rattle.std.specs.Prelude as rattle
@@ -47,10 +47,6 @@ pub both_stand : (p : Paper) (b : Bool) → cond (is_accepted p) (cond b accepte
 both_stand none true e = (refl, refl)
 both_stand none false e = absurd (none_apart 8 (sym e))
 both_stand (some x) b e = let z : ◌≡◌ {A = ℕ} 0 1 = cc in absurd (omega arith)
-
--- no reason has the number 0
-pub some_number : (reason : Reason) → 1 ≤ number_of reason
-some_number reason = grind arith
 
 -- a refusal is never an accepting answer
 pub refusal_apart : (reason : Reason) (spot : rattle.Option ℕ) → accepted ≡ refused_for reason spot → ⊥

@@ -5,7 +5,6 @@ ghost use Rattle.std.specs.Prelude.{◌≡◌, true, ◌||◌, ltb};
 ghost use Rattle.sheet_operator.specs.Memory.{vacant};
 ghost use Rattle.sheet_format.specs.Head.{head_good};
 ghost use Rattle.sheet.specs.Answer.{paper};
-ghost use Rattle.sheet.specs.Sheet.{no_sheet};
 ghost use Rattle.sheet.specs.Check.{vacant_from, check_of};
 ghost use Rattle.sheet.specs.Judges.{Judged, Judges};
 
@@ -24,21 +23,7 @@ pub struct Sheet {
     pub operators: [Operator; OPERATORS],
 }
 
-// What stands in a sheet's place on a refusal.
-pub fn no_sheet() -> Sheet
-    ensures { result ≡ no_sheet }
-{
-    let operators = [sheet_decode::NO_OPERATOR; OPERATORS];
-    Sheet {
-        inputs: 0,
-        queues: 0,
-        variables: 0,
-        count: 0,
-        operators,
-    }
-}
-
-// What is known of an operator after those seen, where it is kept.
+// What is known with an operator more, where it is kept.
 fn judge_operator(t: Sheet, seen: Seen, o: Operator) -> Result<Seen, Reason>
     requires { head_good t.inputs t.queues t.variables t.count ≡ true }
     ensures { Judged t seen o result }
@@ -67,10 +52,7 @@ fn judge_operators(t: Sheet) -> Result<Seen, Refusal>
 fn vacant_past(n: usize, i: usize, o: Operator) -> bool
     ensures { result ≡ (ltb i n || vacant o) }
 {
-    if i < n {
-        return true;
-    }
-    sheet_operator::is_vacant(o)
+    i < n || sheet_operator::is_vacant(o)
 }
 
 fn vacant_from(t: Sheet) -> bool
@@ -78,8 +60,7 @@ fn vacant_from(t: Sheet) -> bool
 {
     let n = t.count as usize;
     for i in 0..OPERATORS {
-        let o = t.operators[i];
-        if !vacant_past(n, i, o) {
+        if !vacant_past(n, i, t.operators[i]) {
             return false;
         }
     }

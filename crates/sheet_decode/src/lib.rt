@@ -73,37 +73,29 @@ pub fn is_cut(s: &[u8], at: usize) -> bool
     s.len() - at - sheet_format::HEADER < body
 }
 
+#[tactic(auto, unfolding(sheet_format::specs::Record::body_good))]
 fn line_length(n: usize) -> bool
     ensures { result ≡ body_good Kind.Line n }
 {
-    if n < LINE_LEAST {
-        return false;
-    }
-    if LINE_MOST < n {
-        return false;
-    }
-    (n - 2) % sheet_step::STEP_BYTES == 0
+    LINE_LEAST <= n && n <= LINE_MOST && (n - 2) % sheet_step::STEP_BYTES == 0
 }
 
+#[tactic(auto, unfolding(sheet_format::specs::Record::body_good))]
 fn ways_length(n: usize) -> bool
     ensures { result ≡ body_good Kind.Deal n }
 {
-    if n < WAYS_LEAST {
-        return false;
-    }
-    n <= WAYS_MOST
+    WAYS_LEAST <= n && n <= WAYS_MOST
 }
 
+#[tactic(auto, unfolding(sheet_format::specs::Record::body_good))]
 fn body_good(k: Kind, n: usize) -> bool
     ensures { result ≡ body_good k n }
 {
     match k {
         Kind::Empty => false,
         Kind::Line => line_length(n),
-        Kind::Latest => n == 3,
-        Kind::Double => n == 3,
-        Kind::Deal => ways_length(n),
-        Kind::Gather => ways_length(n),
+        Kind::Latest | Kind::Double => n == 3,
+        Kind::Deal | Kind::Gather => ways_length(n),
     }
 }
 
@@ -113,8 +105,7 @@ fn steps_at(s: &[u8], at: usize, n: usize) -> [Step; sheet_operator::PLACES]
 {
     let mut steps = [sheet_step::NO_STEP; sheet_operator::PLACES];
     for i in 0..n {
-        let t = sheet_step::step_at(s, at + sheet_step::STEP_BYTES * i);
-        steps[i] = t;
+        steps[i] = sheet_step::step_at(s, at + sheet_step::STEP_BYTES * i);
     }
     steps
 }
@@ -123,7 +114,7 @@ fn ways_at(s: &[u8], at: usize, n: usize) -> [u8; sheet_operator::PLACES]
     requires { (n ≤ PLACES) × (at + n ≤ length s.now) }
     ensures { result ≡ pad PLACES 0 (build n (λ k. get_or s.now (at + k) 0)) }
 {
-    let mut queues = [0u8; sheet_operator::PLACES];
+    let mut queues = [0; sheet_operator::PLACES];
     for i in 0..n {
         queues[i] = s[at + i];
     }
@@ -199,14 +190,13 @@ fn gather_at(s: &[u8], at: usize, n: usize) -> Operator
     ensures { result ≡ memory (op_of Kind.Gather n (drop at s.now)) }
 {
     let ins = ways_at(s, at + 2, n - 2);
-    let output = s[at + 1];
     Operator {
         kind: Kind::Gather,
         count: (n - 2) as u8,
         variable: s[at],
         field: 0,
         ins,
-        outs: [output, 0, 0, 0],
+        outs: [s[at + 1], 0, 0, 0],
         steps: [sheet_step::NO_STEP; sheet_operator::PLACES],
     }
 }
@@ -247,25 +237,16 @@ pub fn take(s: &[u8], at: usize) -> Result<TakenRecord, Reason>
     Ok(TakenRecord { next: body + n, op })
 }
 
+#[tactic(auto, unfolding(sheet_format::specs::Head::head_good))]
 pub fn head_good(inputs: u8, queues: u8, variables: u8, count: u8) -> bool
     ensures { result ≡ head_good inputs queues variables count }
 {
-    if inputs < 1 {
-        return false;
-    }
-    if base_bounds::INPUTS < inputs {
-        return false;
-    }
-    if queues < inputs {
-        return false;
-    }
-    if base_bounds::QUEUES < queues {
-        return false;
-    }
-    if base_bounds::VARIABLES < variables {
-        return false;
-    }
-    count <= base_bounds::OPERATORS
+    1 <= inputs
+        && inputs <= base_bounds::INPUTS
+        && inputs <= queues
+        && queues <= base_bounds::QUEUES
+        && variables <= base_bounds::VARIABLES
+        && count <= base_bounds::OPERATORS
 }
 
 // The head at the front, or its refusal.

@@ -15,7 +15,7 @@ use Rattle.sheet.specs.Answer.{Paper, accepted, is_accepted}
 use Rattle.sheet.specs.Sheet.{memory_sheet}
 use Rattle.sheet.specs.Check.{check_of}
 use Rattle.text_scan.specs.Reader.{Res, got, lost, Reader, bind, ◌>>◌, is_blank, here, spell}
-use Rattle.text_scan.specs.Cursor.{after_blanks}
+use Rattle.text_scan.specs.Reads.{after_blanks}
 use Rattle.text_grammar.specs.Readers.{Tree, names}
 use Rattle.text_grammar.specs.Tokens.{must, Token, Starts, Spells, more, at_once, spaced, byte_as, op_tokens, names_tokens, text_tokens, TextOf}
 use Rattle.text_grammar.specs.Tokens as tokens

@@ -16,7 +16,7 @@ use Rattle.base_lists.proofs.Tests.{both, both_of}
 use Rattle.base_words.specs.Text.{word, natural, digit}
 use Rattle.base_words.proofs.Digits.{natural_small, natural_more}
 use Rattle.text_scan.specs.Reader.{Res, got, Reader, bind, ◌>>=◌, ◌>>◌, is_blank, is_digit, here, sign, spell, digits, digit_on, goes_on}
-use Rattle.text_scan.specs.Cursor.{after_blanks}
+use Rattle.text_scan.specs.Reads.{after_blanks}
 use Rattle.text_scan.proofs.Places.{sign_after}
 use Rattle.text_scan.proofs.Exact.{either}
 use Rattle.text_scan.proofs.ExactBytes.{here_in, member_first, no_blank_digit}

@@ -14,7 +14,7 @@ use Rattle.base_lists.proofs.Tests.{both_of}
 use Rattle.base_words.specs.Text.{word, natural}
 use Rattle.sheet_operator.specs.Op.{Op}
 use Rattle.text_scan.specs.Reader.{Res, got, lost, Reader, bind, ◌>>=◌, ◌>>◌, Turn, again, last, turn, repeat, BLANKS, is_blank, here, sign, digits, to_end}
-use Rattle.text_scan.specs.Cursor.{after_blanks}
+use Rattle.text_scan.specs.Reads.{after_blanks}
 use Rattle.text_scan.proofs.Places.{sign_after}
 use Rattle.text_scan.proofs.Exact.{either}
 use Rattle.text_scan.proofs.Whole.{Whole, Carries, dead, cut, ended, goes_on, smaller}

@@ -2,7 +2,7 @@
 use Rattle.std.specs.Prelude.{ℕ, List}
 use Rattle.base_words.specs.Text.{word}
 use Rattle.text_scan.specs.Reader.{Res, got, lost, Reader, ◌>>◌, sign, spell}
-use Rattle.text_scan.specs.Cursor.{after_blanks}
+use Rattle.text_scan.specs.Reads.{after_blanks}
 use Rattle.text_grammar.specs.Readers.{names}
 
 abbrev pub left_by : {A : Type 0} → Res A → List ℕ

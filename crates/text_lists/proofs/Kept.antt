@@ -8,26 +8,27 @@ use mathlib.Core.List.{List, [], ◌∷◌}
 use lib.Dec.{eqb}
 use lib.ListN.{drop, set}
 use borrow.Author.Tests.{le-leb, lt-leb}
+use Rattle.std.specs.Prelude.{Result}
 use Rattle.base_bounds.specs.Bounds.{QUEUES}
 use Rattle.base_words.specs.Text.{word}
-use Rattle.text_scan.specs.declared.Cursor.{Cursor}
+use Rattle.text_scan.specs.declared.Read.{Read}
+use Rattle.text_scan.specs.declared.Lost.{Lost}
 use Rattle.text_scan.specs.Reader.{Res, got, lost, Reader, bind, ◌>>=◌, repeat, sign, here, BLANKS}
-use Rattle.text_scan.specs.Cursor.{stands_as, stands}
+use Rattle.text_scan.specs.Reads.{Reads}
 use Rattle.text_scan.proofs.Filled.{Next, Over, next_or_over}
-use Rattle.text_scan.proofs.Going.{at_last}
-use Rattle.text_scan.proofs.Binding.{same_bind, bind_same}
 use Rattle.text_grammar.specs.Readers.{name_turn, names_by, names, snoc}
 use Rattle.text_grammar.proofs.Kept.{names_kept_lem}
 use Rattle.text_lists.specs.declared.KeptNames.{KeptNames}
-use Rattle.text_lists.specs.Names.{kept_of, none, noted}
+use Rattle.text_lists.specs.declared.NameList.{NameList}
+use Rattle.text_lists.specs.Names.{kept_of, none, noted, names_in}
 
 -- ---- one name more
 
-pub noted_full : (n : KeptNames) (q : ℕ) → QUEUES ≤ n.count → record { count = suc QUEUES; queues = n.queues } ≡ noted n q
+noted_full : (n : KeptNames) (q : ℕ) → QUEUES ≤ n.count → record { count = suc QUEUES; queues = n.queues } ≡ noted n q
 unfolding noted
 noted_full n q h = rw (le-leb QUEUES n.count h)
 
-pub noted_more : (n : KeptNames) (q : ℕ) → n.count < QUEUES → record { count = n.count + 1; queues = set n.queues n.count q } ≡ noted n q
+noted_more : (n : KeptNames) (q : ℕ) → n.count < QUEUES → record { count = n.count + 1; queues = set n.queues n.count q } ≡ noted n q
 unfolding noted
 noted_more n q h = rw (lt-leb QUEUES n.count h)
 
@@ -72,14 +73,9 @@ after_word (got b t) = by (eqb b 59)
     by false = after_q (sign (word "q;") t)
 
 -- what is kept by the program is kept of the list
-pub names_by_kept : (s : List ℕ) → names_by noted none s ≡ bind (names s) kept
+names_by_kept : (s : List ℕ) → names_by noted none s ≡ bind (names s) kept
 names_by_kept s = after_word (here (59 ∷ BLANKS) s)
 
-pub reads_kept : (s : List ℕ) (c : Cursor) {x : Res KeptNames} → x ≡ bind (stands s c) (λ (y : ℕ). names_by noted none) →
-    x ≡ bind (bind (stands s c) (λ (y : ℕ). names)) kept
-reads_kept s c e = e ∙ bind_same (stands s c) (λ a t. names_by_kept t) ∙ sym (same_bind (stands s c) (λ (y : ℕ). names) kept)
-
--- a list that ends where a mark was read
-pub no_names_read : (s : List ℕ) (c b : Cursor) (n : KeptNames) → n ≡ none → bind (stands s c) (λ (x : ℕ). names_by noted none) ≡ bind (stands s b) (λ (x : ℕ). got none) →
-    stands_as b.ok n (drop b.at s) ≡ bind (stands s c) (λ (x : ℕ). names_by noted none)
-no_names_read s c b n h e = ap (λ (m : KeptNames). stands_as b.ok m (drop b.at s)) h ∙ at_last s b none ∙ sym e
+pub reads_kept : {s : List ℕ} {at : ℕ} {r : Result (Read NameList) Lost} → Reads names_in s at (names_by noted none) r →
+    Reads names_in s at (λ (t : List ℕ). bind (names t) kept) r
+reads_kept {s} {at} g = record { within = g.within; reads = g.reads ∙ names_by_kept (drop at s) }

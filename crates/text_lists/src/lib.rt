@@ -3,15 +3,14 @@
 
 ghost use Rattle.std.specs.Prelude.{◌≡◌, ◌≤◌, length};
 ghost use Rattle.text_scan.specs.Reader.{repeat};
+ghost use Rattle.text_scan.specs.Reads.{same, Reads};
 ghost use Rattle.text_grammar.specs.Readers.{name_turn, names};
-ghost use Rattle.text_lists.specs.Names.{noted, none, GoesTurn, GoesKept, GoesNames};
+ghost use Rattle.text_lists.specs.Names.{noted, none, turned, ReadsList};
 
 use base_bounds::QUEUES;
-use text_scan::Cursor;
+use text_scan::{Lost, Read};
 
 pub const NAMES: usize = QUEUES as usize;
-
-const SEMICOLON: u32 = b';' as u32;
 
 // The first names of a list, in their places, and how many there are; one past the places stands for any more.
 #[derive(Clone, Copy)]
@@ -20,20 +19,16 @@ pub struct KeptNames {
     pub queues: [u8; NAMES],
 }
 
-// One name read, and whether it was the last.
+// What is kept with one name more: the list goes on, or that was its last.
 #[derive(Clone, Copy)]
-pub struct TurnFound {
-    pub ok: bool,
-    pub at: usize,
-    pub last: bool,
-    pub names: KeptNames,
+pub enum Turn {
+    Again(KeptNames),
+    Last(KeptNames),
 }
 
-// A list, where it begins, and where reading stands after it.
+// A list, and where it begins.
 #[derive(Clone, Copy)]
-pub struct NamesFound {
-    pub ok: bool,
-    pub at: usize,
+pub struct NameList {
     pub start: usize,
     pub names: KeptNames,
 }
@@ -48,6 +43,7 @@ pub fn no_names() -> KeptNames
 }
 
 // One name more, while there is a place for it.
+#[tactic(auto, unfolding(crate::specs::Names::noted))]
 pub fn with_name(n: KeptNames, q: u8) -> KeptNames
     ensures { result ≡ noted n q }
 {
@@ -67,88 +63,78 @@ pub fn with_name(n: KeptNames, q: u8) -> KeptNames
 }
 
 // One name, from its digits on, and the mark after it.
-fn turn(s: &[u8], c: Cursor, n: KeptNames) -> TurnFound
-    requires { c.at ≤ length s.now }
-    ensures { GoesTurn s.now c (λ _. name_turn noted n) result }
+fn one_name(s: &[u8], at: usize, names: KeptNames) -> Result<Read<Turn>, Lost>
+    requires { at ≤ length s.now }
+    ensures { Reads turned s.now at (name_turn noted names) result }
 {
-    let q = text_names::decimal(s, c, text_names::LAST_QUEUE);
-    let b = text_scan::sign(s, q, b",;");
-    let names = with_name(n, q.value as u8);
-    if b.value == SEMICOLON {
-        return TurnFound {
-            ok: b.ok,
+    let q = text_names::queue_number(s, at)?;
+    let b = text_scan::sign(s, q.at, b",;")?;
+    let more = with_name(names, q.value);
+    if b.value == b';' {
+        return Ok(Read {
+            value: Turn::Last(more),
             at: b.at,
-            last: true,
-            names,
-        };
+        });
     }
-    let d = text_scan::mark(s, b, b'q');
-    TurnFound {
-        ok: d.ok,
-        at: d.at,
-        last: false,
-        names,
-    }
+    let mark = text_scan::sign(s, b.at, b"q")?;
+    Ok(Read {
+        value: Turn::Again(more),
+        at: mark.at,
+    })
 }
 
 // The names from the first one's digits on.
-fn turns(s: &[u8], c: Cursor, start: usize) -> NamesFound
-    requires { c.at ≤ length s.now }
-    ensures { GoesKept s.now c (λ _. repeat (name_turn noted) none) result × (result.start ≡ start) }
+fn turns(s: &[u8], at: usize) -> Result<Read<KeptNames>, Lost>
+    requires { at ≤ length s.now }
+    ensures { Reads same s.now at (repeat (name_turn noted) none) result }
 {
-    let mut d = c;
     let mut names = no_names();
-    while d.ok {
-        let t = turn(s, d, names);
-        let n = t.names;
-        names = n;
-        if t.last {
-            return NamesFound {
-                ok: t.ok,
-                at: t.at,
-                start,
-                names,
-            };
+    let mut from = at;
+    loop {
+        let t = one_name(s, from, names)?;
+        from = t.at;
+        match t.value {
+            Turn::Again(more) => names = more,
+            Turn::Last(all) => {
+                return Ok(Read {
+                    value: all,
+                    at: from,
+                });
+            }
         }
-        d = Cursor {
-            ok: t.ok,
-            at: t.at,
-            value: 0,
-        };
-    }
-    NamesFound {
-        ok: false,
-        at: d.at,
-        start,
-        names,
     }
 }
 
 // A list, from behind its word on.
-pub fn names(s: &[u8], c: Cursor) -> NamesFound
-    requires { c.at ≤ length s.now }
-    ensures { GoesNames s.now c (λ _. names) result }
+pub fn names(s: &[u8], at: usize) -> Result<Read<NameList>, Lost>
+    requires { at ≤ length s.now }
+    ensures { ReadsList s.now at names result }
 {
-    let start = text_scan::skip(s, c.at);
-    let b = text_scan::here(s, c, b"; \t\n\r");
-    if b.value == SEMICOLON {
-        let names = no_names();
-        return NamesFound {
-            ok: b.ok,
+    let start = text_scan::skip(s, at);
+    let none = NameList {
+        start,
+        names: no_names(),
+    };
+    let b = text_scan::here(s, at, b"; \t\n\r")?;
+    if b.value == b';' {
+        return Ok(Read {
+            value: none,
             at: b.at,
-            start,
-            names,
-        };
+        });
     }
-    let d = text_scan::sign(s, b, b"q;");
-    if d.value == SEMICOLON {
-        let names = no_names();
-        return NamesFound {
-            ok: d.ok,
-            at: d.at,
-            start,
-            names,
-        };
+    let b = text_scan::sign(s, b.at, b"q;")?;
+    if b.value == b';' {
+        return Ok(Read {
+            value: none,
+            at: b.at,
+        });
     }
-    turns(s, d, start)
+    let all = turns(s, b.at)?;
+    Ok(Read {
+        value: NameList {
+            start,
+            names: all.value,
+        },
+        at: all.at,
+    })
 }

@@ -1,127 +1,126 @@
 // Names and numbers from text.
 #![tactic(auto)]
 
-ghost use Rattle.std.specs.Prelude.{◌≡◌, ◌-◌, ◌≤◌, length};
+ghost use Rattle.std.specs.Prelude.{◌≤◌, length, IfOk};
 ghost use Rattle.base_words.specs.Text.{natural};
 ghost use Rattle.text_scan.specs.Reader.{spell};
-ghost use Rattle.text_scan.specs.Cursor.{Goes};
-ghost use Rattle.text_grammar.specs.Readers.{decimal, byte, negative, number, queue, variable, variable_is_lem, arrow};
-ghost use Rattle.text_names.specs.Named.{Named, Settles};
+ghost use Rattle.text_scan.specs.Reads.{same, Reads};
+ghost use Rattle.text_grammar.specs.Readers.{decimal, byte, queue, variable, variable_is_lem, arrow, negative, number};
 
-use text_scan::Cursor;
+use text_scan::{Lost, Read};
 
 // The highest number of a queue.
 pub const LAST_QUEUE: u32 = base_bounds::QUEUES as u32 - 1;
 
-const MINUS: u32 = b'-' as u32;
-
-// A lost cursor with the value 0.
-fn settled(c: Cursor) -> Cursor
-    ensures { Settles c result }
-{
-    if c.ok {
-        return c;
-    }
-    Cursor {
-        ok: false,
-        at: c.at,
-        value: 0,
-    }
-}
+const LAST_VARIABLE: u32 = base_bounds::VARIABLES as u32 - 1;
 
 // A decimal up to `top`, its first digit at once.
-pub fn decimal(s: &[u8], c: Cursor, top: u32) -> Cursor
-    requires { (c.at ≤ length s.now) × (9 ≤ top) }
-    ensures { Named top s.now c (λ _. decimal top) result }
+pub fn decimal(s: &[u8], at: usize, top: u32) -> Result<Read<u32>, Lost>
+    requires { (at ≤ length s.now) × (9 ≤ top) }
+    ensures reads { Reads same s.now at (decimal top) result }
+    ensures small { IfOk result (λ r. r.value ≤ top) }
 {
-    let d = text_scan::here(s, c, b"0123456789");
-    let e = text_scan::digits(s, d, top);
-    settled(e)
+    let first = text_scan::here(s, at, b"0123456789")?;
+    Ok(text_scan::digits(s, first.at, first.value, top))
 }
 
-pub fn byte(s: &[u8], c: Cursor) -> Cursor
-    requires { c.at ≤ length s.now }
-    ensures { Named 255 s.now c (λ _. byte) result }
+pub fn byte(s: &[u8], at: usize) -> Result<Read<u8>, Lost>
+    requires { at ≤ length s.now }
+    ensures { Reads same s.now at byte result }
 {
-    let d = text_scan::sign(s, c, b"0123456789");
-    let e = text_scan::digits(s, d, 255);
-    settled(e)
+    let first = text_scan::sign(s, at, b"0123456789")?;
+    let n = text_scan::digits(s, first.at, first.value, 255);
+    Ok(Read {
+        value: n.value as u8,
+        at: n.at,
+    })
 }
 
-pub fn queue(s: &[u8], c: Cursor) -> Cursor
-    requires { c.at ≤ length s.now }
-    ensures { Named 23 s.now c (λ _. queue) result }
+pub fn queue(s: &[u8], at: usize) -> Result<Read<u8>, Lost>
+    requires { at ≤ length s.now }
+    ensures reads { Reads same s.now at queue result }
+    ensures small { IfOk result (λ r. r.value ≤ 23) }
 {
-    let d = text_scan::mark(s, c, b'q');
-    decimal(s, d, LAST_QUEUE)
+    let mark = text_scan::sign(s, at, b"q")?;
+    queue_number(s, mark.at)
+}
+
+// A queue's number, once its `q` is read.
+pub fn queue_number(s: &[u8], at: usize) -> Result<Read<u8>, Lost>
+    requires { at ≤ length s.now }
+    ensures reads { Reads same s.now at (decimal 23) result }
+    ensures small { IfOk result (λ r. r.value ≤ 23) }
+{
+    let n = decimal(s, at, LAST_QUEUE)?;
+    Ok(Read {
+        value: n.value as u8,
+        at: n.at,
+    })
 }
 
 // A variable, once its `$` is read.
-pub fn variable(s: &[u8], c: Cursor) -> Cursor
-    requires { c.at ≤ length s.now }
-    ensures { Named 15 s.now c (λ _. variable) result }
+pub fn variable(s: &[u8], at: usize) -> Result<Read<u8>, Lost>
+    requires { at ≤ length s.now }
+    ensures reads { Reads same s.now at variable result }
+    ensures small { IfOk result (λ r. r.value ≤ 15) }
 {
-    let d = text_scan::letter(s, c, b'v');
-    decimal(s, d, 15)
+    let mark = text_scan::here(s, at, b"v")?;
+    let n = decimal(s, mark.at, LAST_VARIABLE)?;
+    Ok(Read {
+        value: n.value as u8,
+        at: n.at,
+    })
 }
 
 // The digits of a number below 20.
-fn spell_small(s: &[u8], c: Cursor, n: u8) -> Cursor
-    requires { (c.at ≤ length s.now) × (n ≤ 19) }
-    ensures { Goes s.now c (λ _. spell (natural n)) result }
+fn spell_small(s: &[u8], at: usize, n: u8) -> Result<Read<u8>, Lost>
+    requires { (at ≤ length s.now) × (n ≤ 19) }
+    ensures { Reads same s.now at (spell (natural n)) result }
 {
     if n < 10 {
-        return text_scan::spell(s, c, &[48 + n]);
+        return text_scan::spell(s, at, &[b'0' + n]);
     }
-    text_scan::spell(s, c, &[b'1', 38 + n])
+    text_scan::spell(s, at, &[b'1', b'0' + (n - 10)])
 }
 
 // The variable v again, once its `$` is read.
-pub fn variable_is(s: &[u8], c: Cursor, v: u8) -> Cursor
-    requires { (c.at ≤ length s.now) × (v ≤ 15) }
-    ensures { Goes s.now c (λ _. variable_is_lem v) result }
+pub fn variable_is(s: &[u8], at: usize, v: u8) -> Result<Read<u8>, Lost>
+    requires { (at ≤ length s.now) × (v ≤ 15) }
+    ensures { Reads same s.now at (variable_is_lem v) result }
 {
-    let d = text_scan::letter(s, c, b'v');
-    spell_small(s, d, v)
+    let mark = text_scan::here(s, at, b"v")?;
+    spell_small(s, mark.at, v)
 }
 
-pub fn arrow(s: &[u8], c: Cursor) -> Cursor
-    requires { c.at ≤ length s.now }
-    ensures { Goes s.now c (λ _. arrow) result }
+pub fn arrow(s: &[u8], at: usize) -> Result<Read<u8>, Lost>
+    requires { at ≤ length s.now }
+    ensures { Reads same s.now at arrow result }
 {
-    let d = text_scan::mark(s, c, b'<');
-    text_scan::letter(s, d, b'-')
+    let mark = text_scan::sign(s, at, b"<")?;
+    text_scan::here(s, mark.at, b"-")
 }
 
-fn one_less(n: u32) -> u32
-    ensures { result ≡ n - 1 }
+// What follows the minus sign of a number, as the bits of the negative one.
+fn negative(s: &[u8], at: usize) -> Result<Read<u32>, Lost>
+    requires { at ≤ length s.now }
+    ensures { Reads same s.now at negative result }
 {
-    if n == 0 { 0 } else { n - 1 }
-}
-
-// What follows the minus sign of a number.
-fn negative(s: &[u8], c: Cursor) -> Cursor
-    requires { c.at ≤ length s.now }
-    ensures { Goes s.now c (λ _. negative) result }
-{
-    let d = text_scan::here(s, c, b"123456789");
-    let e = text_scan::digits(s, d, 2147483648);
-    let n = one_less(e.value);
-    Cursor {
-        ok: e.ok,
-        at: e.at,
-        value: 4294967295 - n,
-    }
+    let first = text_scan::here(s, at, b"123456789")?;
+    let n = text_scan::digits(s, first.at, first.value, 2147483648);
+    Ok(Read {
+        value: u32::MAX - n.value.saturating_sub(1),
+        at: n.at,
+    })
 }
 
 // A signed number, by its bits.
-pub fn number(s: &[u8], c: Cursor) -> Cursor
-    requires { c.at ≤ length s.now }
-    ensures { Goes s.now c (λ _. number) result }
+pub fn number(s: &[u8], at: usize) -> Result<Read<u32>, Lost>
+    requires { at ≤ length s.now }
+    ensures { Reads same s.now at number result }
 {
-    let b = text_scan::sign(s, c, b"-0123456789");
-    if b.value == MINUS {
-        return negative(s, b);
+    let first = text_scan::sign(s, at, b"-0123456789")?;
+    if first.value == b'-' {
+        return negative(s, first.at);
     }
-    text_scan::digits(s, b, 2147483647)
+    Ok(text_scan::digits(s, first.at, first.value, 2147483647))
 }

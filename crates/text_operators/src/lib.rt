@@ -6,183 +6,158 @@ ghost use Rattle.sheet_operator.specs.Op.{line, latest, double};
 ghost use Rattle.sheet_operator.specs.Memory.{memory};
 ghost use Rattle.text_grammar.specs.Readers.{line_to, latest_to, double_to, two_to, more_to, queue_to, operator};
 ghost use Rattle.text_steps.specs.Steps.{Filled, steps_of};
-ghost use Rattle.text_ways.specs.Found.{GoesTo};
+ghost use Rattle.text_ways.specs.Found.{ReadsOp};
 
 use sheet_operator::{Kind, Operator, PLACES};
-use text_scan::Cursor;
+use text_scan::{Lost, Read};
 use text_steps::HeldSteps;
-use text_ways::Found;
 
-// What tells one name from more.
-const CLOSE: u32 = b')' as u32;
-
+#[tactic(auto, using(base_lists::proofs::Build::build_length))]
 fn line_of(p: u8, q: u8, held: HeldSteps) -> Operator
     requires { Filled held }
     ensures { result ≡ memory (line p q (steps_of held)) }
 {
-    let ins = [p, 0, 0, 0];
-    let outs = [q, 0, 0, 0];
     let steps = held.steps;
     Operator {
         kind: Kind::Line,
         count: held.count,
         variable: 0,
         field: 0,
-        ins,
-        outs,
+        ins: [p, 0, 0, 0],
+        outs: [q, 0, 0, 0],
         steps,
     }
 }
 
 // (q) <- steps(p), from the arrow on.
-fn line(s: &[u8], c: Cursor, q: u8) -> Found
-    requires { c.at ≤ length s.now }
-    ensures { GoesTo s.now c (λ _. line_to q) result }
+fn line(s: &[u8], at: usize, q: u8) -> Result<Read<Operator>, Lost>
+    requires { at ≤ length s.now }
+    ensures { ReadsOp s.now at (line_to q) result }
 {
-    let c = text_names::arrow(s, c);
-    let f = text_steps::steps(s, c);
-    let held = f.held;
-    let d = Cursor {
-        ok: f.ok,
-        at: f.at,
-        value: 0,
-    };
-    let p = text_names::queue(s, d);
-    let c = text_scan::mark(s, p, b')');
-    let op = line_of(p.value as u8, q, held);
-    Found {
-        ok: c.ok,
+    let c = text_names::arrow(s, at)?;
+    let held = text_steps::steps(s, c.at)?;
+    let p = text_names::queue(s, held.at)?;
+    let c = text_scan::sign(s, p.at, b")")?;
+    Ok(Read {
+        value: line_of(p.value, q, held.value),
         at: c.at,
-        op,
-    }
+    })
 }
 
 fn latest_of(p: u8, v: u8, f: u8) -> Operator
     ensures { result ≡ memory (latest p v f) }
 {
-    let ins = [p, 0, 0, 0];
-    let outs = [0; PLACES];
-    let steps = [sheet_step::NO_STEP; PLACES];
     Operator {
         kind: Kind::Latest,
         count: 0,
         variable: v,
         field: f,
-        ins,
-        outs,
-        steps,
+        ins: [p, 0, 0, 0],
+        outs: [0; PLACES],
+        steps: [sheet_step::NO_STEP; PLACES],
     }
 }
 
 // ($v) <- Latest[f](p), from behind the `$` on.
-fn latest(s: &[u8], c: Cursor) -> Found
-    requires { c.at ≤ length s.now }
-    ensures { GoesTo s.now c (λ _. latest_to) result }
+fn latest(s: &[u8], at: usize) -> Result<Read<Operator>, Lost>
+    requires { at ≤ length s.now }
+    ensures { ReadsOp s.now at latest_to result }
 {
-    let v = text_names::variable(s, c);
-    let c = text_scan::mark(s, v, b')');
-    let c = text_names::arrow(s, c);
-    let c = text_scan::mark(s, c, b'L');
-    let c = text_scan::spell(s, c, b"atest");
-    let c = text_scan::mark(s, c, b'[');
-    let f = text_names::byte(s, c);
-    let c = text_scan::mark(s, f, b']');
-    let c = text_scan::mark(s, c, b'(');
-    let p = text_names::queue(s, c);
-    let c = text_scan::mark(s, p, b')');
-    let op = latest_of(p.value as u8, v.value as u8, f.value as u8);
-    Found {
-        ok: c.ok,
+    let v = text_names::variable(s, at)?;
+    let c = text_scan::sign(s, v.at, b")")?;
+    let c = text_names::arrow(s, c.at)?;
+    let c = text_scan::sign(s, c.at, b"L")?;
+    let c = text_scan::spell(s, c.at, b"atest")?;
+    let c = text_scan::sign(s, c.at, b"[")?;
+    let f = text_names::byte(s, c.at)?;
+    let c = text_scan::sign(s, f.at, b"]")?;
+    let c = text_scan::sign(s, c.at, b"(")?;
+    let p = text_names::queue(s, c.at)?;
+    let c = text_scan::sign(s, p.at, b")")?;
+    Ok(Read {
+        value: latest_of(p.value, v.value, f.value),
         at: c.at,
-        op,
-    }
+    })
 }
 
 fn double_of(p: u8, q: u8, r: u8) -> Operator
     ensures { result ≡ memory (double p q r) }
 {
-    let ins = [p, 0, 0, 0];
-    let outs = [q, r, 0, 0];
-    let steps = [sheet_step::NO_STEP; PLACES];
     Operator {
         kind: Kind::Double,
         count: 0,
         variable: 0,
         field: 0,
-        ins,
-        outs,
-        steps,
+        ins: [p, 0, 0, 0],
+        outs: [q, r, 0, 0],
+        steps: [sheet_step::NO_STEP; PLACES],
     }
 }
 
 // (q, r) <- Double(p), from the arrow on.
-fn double(s: &[u8], c: Cursor, q: u8, r: u8) -> Found
-    requires { c.at ≤ length s.now }
-    ensures { GoesTo s.now c (λ _. double_to q r) result }
+fn double(s: &[u8], at: usize, q: u8, r: u8) -> Result<Read<Operator>, Lost>
+    requires { at ≤ length s.now }
+    ensures { ReadsOp s.now at (double_to q r) result }
 {
-    let c = text_names::arrow(s, c);
-    let c = text_scan::mark(s, c, b'D');
-    let c = text_scan::spell(s, c, b"ouble");
-    let c = text_scan::mark(s, c, b'(');
-    let p = text_names::queue(s, c);
-    let c = text_scan::mark(s, p, b')');
-    let op = double_of(p.value as u8, q, r);
-    Found {
-        ok: c.ok,
+    let c = text_names::arrow(s, at)?;
+    let c = text_scan::sign(s, c.at, b"D")?;
+    let c = text_scan::spell(s, c.at, b"ouble")?;
+    let c = text_scan::sign(s, c.at, b"(")?;
+    let p = text_names::queue(s, c.at)?;
+    let c = text_scan::sign(s, p.at, b")")?;
+    Ok(Read {
+        value: double_of(p.value, q, r),
         at: c.at,
-        op,
-    }
+    })
 }
 
 // From the second queue's digits on: a double or a deal.
-fn two(s: &[u8], c: Cursor, q: u8) -> Found
-    requires { c.at ≤ length s.now }
-    ensures { GoesTo s.now c (λ _. two_to q) result }
+fn two(s: &[u8], at: usize, q: u8) -> Result<Read<Operator>, Lost>
+    requires { at ≤ length s.now }
+    ensures { ReadsOp s.now at (two_to q) result }
 {
-    let r = text_names::decimal(s, c, text_names::LAST_QUEUE);
-    let second = r.value as u8;
-    let b = text_scan::sign(s, r, b"),");
-    if b.value == CLOSE {
-        return double(s, b, q, second);
+    let r = text_names::queue_number(s, at)?;
+    let b = text_scan::sign(s, r.at, b"),")?;
+    if b.value == b')' {
+        return double(s, b.at, q, r.value);
     }
-    text_ways::deal(s, b, q, second)
+    text_ways::deal(s, b.at, q, r.value)
 }
 
 // From behind the first comma on: a second queue, or a gather's variable.
-fn more(s: &[u8], c: Cursor, q: u8) -> Found
-    requires { c.at ≤ length s.now }
-    ensures { GoesTo s.now c (λ _. more_to q) result }
+fn more(s: &[u8], at: usize, q: u8) -> Result<Read<Operator>, Lost>
+    requires { at ≤ length s.now }
+    ensures { ReadsOp s.now at (more_to q) result }
 {
-    let b = text_ways::queue_or_variable(s, c);
-    if b.value == text_ways::QUEUE {
-        return two(s, b, q);
+    let b = text_ways::queue_or_variable(s, at)?;
+    if b.value == b'q' {
+        return two(s, b.at, q);
     }
-    text_ways::gather(s, b, q)
+    text_ways::gather(s, b.at, q)
 }
 
 // From the first queue's digits on: a line, or more names.
-fn queue_to(s: &[u8], c: Cursor) -> Found
-    requires { c.at ≤ length s.now }
-    ensures { GoesTo s.now c (λ _. queue_to) result }
+fn queue_to(s: &[u8], at: usize) -> Result<Read<Operator>, Lost>
+    requires { at ≤ length s.now }
+    ensures { ReadsOp s.now at queue_to result }
 {
-    let r = text_names::decimal(s, c, text_names::LAST_QUEUE);
-    let q = r.value as u8;
-    let b = text_scan::sign(s, r, b"),");
-    if b.value == CLOSE {
-        return line(s, b, q);
+    let q = text_names::queue_number(s, at)?;
+    let b = text_scan::sign(s, q.at, b"),")?;
+    if b.value == b')' {
+        return line(s, b.at, q.value);
     }
-    more(s, b, q)
+    more(s, b.at, q.value)
 }
 
 // An operator, from its first byte on.
-pub fn operator(s: &[u8], c: Cursor) -> Found
-    requires { c.at ≤ length s.now }
-    ensures { GoesTo s.now c (λ _. operator) result }
+pub fn operator(s: &[u8], at: usize) -> Result<Read<Operator>, Lost>
+    requires { at ≤ length s.now }
+    ensures { ReadsOp s.now at operator result }
 {
-    let c = text_scan::mark(s, c, b'(');
-    let b = text_ways::queue_or_variable(s, c);
-    if b.value == text_ways::QUEUE {
-        return queue_to(s, b);
+    let c = text_scan::sign(s, at, b"(")?;
+    let b = text_ways::queue_or_variable(s, c.at)?;
+    if b.value == b'q' {
+        return queue_to(s, b.at);
     }
-    latest(s, b)
+    latest(s, b.at)
 }

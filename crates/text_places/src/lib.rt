@@ -38,9 +38,8 @@ fn locate(s: &[u8]) -> Place
     ensures { placed result ≡ place_after (1, 1) s.now }
 {
     let mut p = Place { line: 1, column: 1 };
-    for i in 0..s.len() {
-        let b = s[i];
-        p = past(p, b);
+    for b in s {
+        p = past(p, *b);
     }
     p
 }

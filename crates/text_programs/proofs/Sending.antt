@@ -6,7 +6,7 @@ use Prim.Native.Nat.{ℕ, suc, ◌+◌, ◌*◌, ◌<◌, ◌≤◌}
 use native.Mathlib.Nat.{zero-add}
 use native.Mathlib.Omega.{arith}
 use lib.ListN.{length, set, length-append}
-use Rattle.std.specs.Prelude.{Result}
+use Rattle.std.specs.Prelude.{Result, Ok, is_err}
 use Rattle.std.specs.Result.{result_unwrap_or}
 use Rattle.base_lists.specs.Lists.{chain}
 use Rattle.base_lists.proofs.Sets.{sets_front}
@@ -32,24 +32,23 @@ use Rattle.codec_write.proofs.Writing.{write_of_room}
 use Rattle.text_parts.specs.Put.{PutsUpTo}
 use Rattle.text_print.specs.Names.{SHEET_TEXT}
 use Rattle.text_form.specs.Form.{sheet_text}
-use Rattle.text_programs.specs.declared.Sent.{Sent}
 use Rattle.text_programs.specs.Output.{Output, out, text_line}
-use Rattle.text_programs.specs.Sends.{OUTPUT, Sends}
+use Rattle.text_programs.specs.Sends.{OUTPUT, sent, Sends}
 
 -- the same output
-pub sends_as : {o o' : Output} {before after : List ℕ} {r : Sent} → o ≡ o' → Sends o' before after r → Sends o before after r
+pub sends_as : {o o' : Output} {before after : List ℕ} {r : Result ℕ ℕ} → o ≡ o' → Sends o' before after r → Sends o before after r
 sends_as {before = before} {after = after} {r = r} e h = subst (λ (x : Output). Sends x before after r) (sym e) h
 
-pub sends_puts : (o : Output) {before after : List ℕ} {n : ℕ} → PutsText o.bytes before 0 after n → n ≤ OUTPUT → OUTPUT ≤ length before →
-    Sends o before after (record { size = n; failed = o.failed })
-sends_puts o {before = before} p h room =
+pub sends_puts : (o : Output) {before after : List ℕ} (r : Result ℕ ℕ) → is_err r ≡ o.failed → PutsText o.bytes before 0 after (sent r) →
+    sent r ≤ OUTPUT → OUTPUT ≤ length before → Sends o before after r
+sends_puts o {before = before} r failed p h room =
     let e = p.past ∙ zero-add (length o.bytes) in
-    record { failed = refl; size = e; buffer = p.text ∙ sets_front o.bytes before (omega arith); fits = h }
+    record { failed = failed; size = e; buffer = p.text ∙ sets_front o.bytes before (omega arith); fits = h }
 
 pub sends_text : (t : Sheet) {before mid : List ℕ} {n : ℕ} → PutsUpTo SHEET_TEXT (sheet_text (view_sheet t)) before 0 mid n → OUTPUT ≤ length before →
-    Sends (out (text_line (view_sheet t))) before (set mid n 10) (record { size = n + 1; failed = (out (text_line (view_sheet t))).failed })
+    Sends (out (text_line (view_sheet t))) before (set mid n 10) (Ok (n + 1))
 sends_text t {mid = mid} {n = n} p room =
-    sends_puts (out (text_line (view_sheet t))) (puts_then p.puts (puts_byte mid n 10)) (omega (arith, p.most)) room
+    sends_puts (out (text_line (view_sheet t))) (Ok (n + 1)) refl (puts_then p.puts (puts_byte mid n 10)) (omega (arith, p.most)) room
 
 -- ---- no sheet has more bytes than its head and sixteen of the longest records
 
@@ -81,7 +80,7 @@ module _ (t : Sheet) (good : check_of t ≡ accepted) where
       )
 
   pub sends_bytes : {before after : List ℕ} {r : Result ℕ Refusal} {n : ℕ} → Writes t before after r → n ≡ result_unwrap_or r 0 → OUTPUT ≤ length before →
-      Sends (out (sheet_bytes (view_sheet t))) before after (record { size = n; failed = (out (sheet_bytes (view_sheet t))).failed })
+      Sends (out (sheet_bytes (view_sheet t))) before after (Ok n)
   sends_bytes {before = before} h size room =
       let bytes = sheet_bytes (view_sheet t) in
       let e = write_of_room t before bytes good refl (omega (arith, bytes_most)) in

@@ -27,62 +27,44 @@ pub const SEEN: usize = INPUT + 1;
 // A buffer of this length is always enough: the longest output is a sheet's text with its newline.
 pub const OUTPUT: usize = text_print::SHEET_TEXT + 1;
 
-// How many bytes at the buffer's front are put out, and whether to standard error.
-#[derive(Clone, Copy)]
-pub struct Sent {
-    pub size: usize,
-    pub failed: bool,
-}
+// Each function answers how many bytes at the buffer's front are put out: to standard output with `Ok`,
+// to standard error with `Err`.
 
 // A refusal at a record.
-fn refused(buffer: &mut [u8], e: Refusal) -> Sent
+fn refused(buffer: &mut [u8], e: Refusal) -> Result<usize, usize>
     requires { OUTPUT ≤ length buffer.old }
     ensures { Sends (err (refusal_line (number_of e.reason) (unwrap_or e.spot 0))) buffer.old buffer.new result }
 {
-    let n = bench_lines::put_refusal(buffer, 0, e);
-    Sent {
-        size: n,
-        failed: true,
-    }
+    let n = bench_lines::put_refusal(buffer, 0, e.reason.into(), e.spot.unwrap_or(0));
+    Err(n)
 }
 
 // Refusal 19 at a byte of the input.
-fn outside(input: &[u8], at: usize, buffer: &mut [u8]) -> Sent
+fn outside(input: &[u8], at: usize, buffer: &mut [u8]) -> Result<usize, usize>
     requires { (OUTPUT ≤ length buffer.old) × (at ≤ length input.now) × (length input.now ≤ INPUT_BYTES) }
     ensures { Sends (err (outside_line 19 at (place_of input.now at))) buffer.old buffer.new result }
 {
-    let n = text_places::put_outside(buffer, input, at);
-    Sent {
-        size: n,
-        failed: true,
-    }
+    Err(text_places::put_outside(buffer, input, at))
 }
 
-fn sheet_text(t: Sheet, buffer: &mut [u8]) -> Sent
+fn sheet_text(t: Sheet, buffer: &mut [u8]) -> Result<usize, usize>
     requires { (check_of t ≡ accepted) × (OUTPUT ≤ length buffer.old) }
     ensures { Sends (out (text_line (view_sheet t))) buffer.old buffer.new result }
 {
     let n = text_print::put_text(buffer, t);
     buffer[n] = b'\n';
-    Sent {
-        size: n + 1,
-        failed: false,
-    }
+    Ok(n + 1)
 }
 
-fn sheet_bytes(t: Sheet, buffer: &mut [u8]) -> Sent
+fn sheet_bytes(t: Sheet, buffer: &mut [u8]) -> Result<usize, usize>
     requires { (check_of t ≡ accepted) × (OUTPUT ≤ length buffer.old) }
     ensures { Sends (out (sheet_bytes (view_sheet t))) buffer.old buffer.new result }
 {
-    let size = codec_write::write(t, buffer).unwrap_or(0);
-    Sent {
-        size,
-        failed: false,
-    }
+    Ok(codec_write::write(t, buffer).unwrap_or(0))
 }
 
 // A sheet's bytes: its text and a newline, or the refusal.
-pub fn to_text(input: &[u8], buffer: &mut [u8]) -> Sent
+pub fn to_text(input: &[u8], buffer: &mut [u8]) -> Result<usize, usize>
     requires { OUTPUT ≤ length buffer.old }
     ensures { Sends (to_text_of input.now) buffer.old buffer.new result }
 {
@@ -96,7 +78,7 @@ pub fn to_text(input: &[u8], buffer: &mut [u8]) -> Sent
 }
 
 // A text: the bytes of its sheet, or the refusal.
-pub fn to_bytes(input: &[u8], buffer: &mut [u8]) -> Sent
+pub fn to_bytes(input: &[u8], buffer: &mut [u8]) -> Result<usize, usize>
     requires { OUTPUT ≤ length buffer.old }
     ensures { Sends (to_bytes_of input.now) buffer.old buffer.new result }
 {

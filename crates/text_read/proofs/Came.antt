@@ -2,46 +2,25 @@
 -- Assumes nothing.
 use Prim.Native.Nat.{ℕ}
 use mathlib.Core.Path.{◌≡◌, refl, ap, ◌∙◌, sym}
-use mathlib.Core.Bool.{Bool, true, false}
 use mathlib.Core.List.{List, []}
 use native.Mathlib.Omega.{arith}
 use lib.ListN.{drop}
+use Rattle.std.specs.Prelude.{Ok, Err}
 use Rattle.sheet_operator.specs.Op.{Op}
-use Rattle.text_scan.specs.declared.Cursor.{Cursor}
 use Rattle.base_words.specs.Text.{word}
-use Rattle.text_scan.specs.Reader.{Res, got, lost, bind, sign, to_end}
-use Rattle.text_scan.specs.Cursor.{stands_as, stands}
+use Rattle.text_scan.specs.declared.Read.{Read}
+use Rattle.text_scan.specs.declared.Lost.{Lost}
+use Rattle.text_scan.specs.Reader.{Res, got, lost, Reader, bind, sign, to_end}
+use Rattle.text_scan.proofs.Binding.{same_bind, bind_same}
 use Rattle.text_scan.proofs.Mapped.{end_mapped}
 use Rattle.text_grammar.specs.Readers.{Tree, snoc, head, operator, item_by, with_op, item, text}
 use Rattle.text_grammar.specs.Tokens.{GoodTree}
 use Rattle.text_grammar.proofs.ExactText.{exact_item, no_item}
 use Rattle.text_grammar.proofs.Sheets.{Exactly, is_text, dies, begins, exactly}
-use Rattle.text_tree.specs.declared.HeadFound.{HeadFound}
-use Rattle.text_tree.specs.declared.OperatorsFound.{OperatorsFound}
-use Rattle.text_tree.specs.Tree.{head_of, head_in, held_of, GoesOperators, Heads}
+use Rattle.text_tree.specs.declared.TextHead.{TextHead}
+use Rattle.text_tree.specs.declared.HeldOperators.{HeldOperators}
+use Rattle.text_tree.specs.Tree.{KeptHead, head_of, head_in, held_of, ReadsOperators, Heads}
 use Rattle.text_tree.proofs.HeadLaws.{bare, head_bare}
-
-abbrev pub after : HeadFound → Cursor
-after h = record { ok = h.ok; at = h.at; value = 0 }
-
-pub data Came (s : List ℕ) (h : HeadFound) (f : OperatorsFound) : Type 0 where
-  came_lost : f.ok ≡ false → text s ≡ lost (drop f.at s) → Came s h f
-  came_got : (t : Tree) → f.ok ≡ true → text s ≡ got t [] → GoodTree t → head_in h ≡ head_of t → f.held ≡ held_of t.ops → Came s h f
-
--- ---- what stands for a reading's result
-
-record Same {A B : Type 0} (k : B → A) (ok : Bool) (a : A) (r : List ℕ) (b : B) (t : List ℕ) : Type 0 where
-  reads : ok ≡ true
-  value : a ≡ k b
-  rest : r ≡ t
-
-stands_got : {A B : Type 0} (k : B → A) (ok : Bool) (a : A) (r : List ℕ) (b : B) (t : List ℕ) → stands_as ok a r ≡ got (k b) t → Same k ok a r b t
-stands_got k true a r b t e = record { reads = refl; value = cc; rest = cc }
-stands_got k false a r b t e = absurd (let z : ◌≡◌ {A = ℕ} 0 1 = cc in omega arith)
-
-stands_lost : {A : Type 0} (ok : Bool) (a : A) (r t : List ℕ) → stands_as ok a r ≡ lost t → (ok ≡ false) × (r ≡ t)
-stands_lost true a r t e = absurd (let z : ◌≡◌ {A = ℕ} 0 1 = cc in omega arith)
-stands_lost false a r t e = (refl, cc)
 
 -- ---- the operators, and the text with them
 
@@ -61,11 +40,52 @@ item_with t os s = after_operator (operator s)
     after_operator (got o u) = after_mark o (sign (word ";") u)
     after_operator (lost u) = refl
 
-ops_with : (t : Tree) (s : List ℕ) → to_end item (bare t) s ≡ bind (to_end (item_by snoc) [] s) (λ (x : List Op). got (with_ops t x))
+abbrev all_ops : Reader (List Op)
+all_ops = to_end (item_by snoc) []
+
+ops_with : (t : Tree) (s : List ℕ) → to_end item (bare t) s ≡ bind (all_ops s) (λ (x : List Op). got (with_ops t x))
 ops_with t s =
     end_mapped (with_ops t) (item_by snoc) (exact_item snoc) (no_item snoc) item (exact_item with_op) (no_item with_op) (item_with t) [] s
 
--- ---- both together
+-- ---- what is kept of a text
+
+abbrev kept : Tree → KeptHead × HeldOperators
+kept t = (head_of t, held_of t.ops)
+
+-- what is kept of the operators, and then with what is kept of the head
+abbrev ops_kept : Reader HeldOperators
+ops_kept u = bind (all_ops u) (λ (os : List Op). got (held_of os))
+
+abbrev with_head : KeptHead → HeldOperators → Reader (KeptHead × HeldOperators)
+with_head k h = got (k, h)
+
+abbrev after_head : KeptHead → Reader (KeptHead × HeldOperators)
+after_head k u = bind (ops_kept u) (with_head k)
+
+text_kept : (s : List ℕ) → bind (bind (head s) (λ (t : Tree). got (head_of t))) after_head ≡ bind (text s) (λ (t : Tree). got (kept t))
+text_kept s =
+    same_bind (head s) (λ (t : Tree). got (head_of t)) after_head
+    ∙ bind_same (head s) (λ t u. same_bind (all_ops u) (λ (os : List Op). got (held_of os)) (with_head (head_of t))
+    ∙ sym (same_bind (all_ops u) (λ (os : List Op). got (with_ops t os)) (λ (w : Tree). got (kept w)))
+    ∙ ap (λ (x : Res Tree). bind x (λ (w : Tree). got (kept w))) (sym (ops_with t u)))
+    ∙ sym (ap (λ (x : Res Tree). bind (bind x (to_end item)) (λ (w : Tree). got (kept w))) (head_bare s)
+    ∙ ap (λ (x : Res Tree). bind x (λ (w : Tree). got (kept w))) (same_bind (head s) (λ (t : Tree). got (bare t)) (to_end item))
+    ∙ same_bind (head s) (λ (t : Tree). to_end item (bare t)) (λ (w : Tree). got (kept w)))
+
+lost_by : {A B : Type 0} (x : Res A) (k : A → B) {l : List ℕ} → lost l ≡ bind x (λ (a : A). got (k a)) → x ≡ lost l
+lost_by (got a t) k e = absurd (let z : ◌≡◌ {A = ℕ} 0 1 = cc in omega arith)
+lost_by (lost t) k {l} e = let f : t ≡ l = cc in ap lost f
+
+record Was {A B : Type 0} (x : Res A) (k : A → B) (b : B) (l : List ℕ) : Type 0 where
+  value : A
+  reads : x ≡ got value l
+  same : b ≡ k value
+
+was : {A B : Type 0} (x : Res A) (k : A → B) {b : B} {l : List ℕ} → got b l ≡ bind x (λ (a : A). got (k a)) → Was x k b l
+was (got a t) k {b} {l} e = let f : t ≡ l = cc in record { value = a; reads = ap (got a) f; same = cc }
+was (lost t) k e = absurd (let z : ◌≡◌ {A = ℕ} 0 1 = cc in omega arith)
+
+-- ---- what it came to
 
 -- the text of a tree that was read is of the grammar, and nothing is left of it
 good_of : (s : List ℕ) (t : Tree) (r : List ℕ) → text s ≡ got t r → Exactly s → (GoodTree t) × (text s ≡ got t [])
@@ -75,39 +95,32 @@ good_of s t r e (is_text w g f) =
 good_of s t r e (dies u b x g c n f) = absurd (let z : ◌≡◌ {A = ℕ} 0 1 = cc in omega arith)
 good_of s t r e (begins c n f) = absurd (let z : ◌≡◌ {A = ℕ} 0 1 = cc in omega arith)
 
-module _ (s : List ℕ) (h : HeadFound) (f : OperatorsFound) where
-  -- once the head is read as t with r left, the operators decide
-  by_ops : (t : Tree) (r : List ℕ) → head s ≡ got t r → t ≡ bare t → head_in h ≡ head_of t → (x : Res (List Op)) → to_end (item_by snoc) [] r ≡ x →
-      stands_as f.ok f.held (drop f.at s) ≡ bind x (λ (os : List Op). got (held_of os)) → Came s h f
-  by_ops t r e b k (got os u) g i =
-      let q = stands_got held_of f.ok f.held (drop f.at s) os u i in
-      let reads : text s ≡ got (with_ops t os) u =
-      ap (λ (y : Res Tree). bind y (to_end item)) e ∙ ap (λ (w : Tree). to_end item w r) b ∙ ops_with t r
-      ∙ ap (λ (y : Res (List Op)). bind y (λ (x : List Op). got (with_ops t x))) g in
-      let good = good_of s (with_ops t os) u reads (exactly s) in
-      came_got (with_ops t os) q.reads good.1 good.0 k q.value
-  by_ops t r e b k (lost u) g i =
-      let q = stands_lost f.ok f.held (drop f.at s) u i in
-      came_lost q.0
-      (ap (λ (y : Res Tree). bind y (to_end item)) e ∙ ap (λ (w : Tree). to_end item w r) b ∙ ops_with t r
-      ∙ ap (λ (y : Res (List Op)). bind y (λ (x : List Op). got (with_ops t x))) g ∙ ap lost (sym q.1))
+pub record Came (s : List ℕ) (h : TextHead) (f : HeldOperators) : Type 0 where
+  pub tree : Tree
+  pub reads : text s ≡ got tree []
+  pub good : GoodTree tree
+  pub head : head_in h ≡ head_of tree
+  pub held : f ≡ held_of tree.ops
 
-  by_head : (x : Res Tree) → head s ≡ x → stands_as h.ok (head_in h) (drop h.at s) ≡ bind x (λ (t : Tree). got (head_of t)) → GoesOperators s (after h) f → Came s h f
-  by_head (got t r) e i g =
-      let q = stands_got head_of h.ok (head_in h) (drop h.at s) t r i in
-      let own : got t r ≡ got (bare t) r = sym e ∙ head_bare s ∙ ap (λ (y : Res Tree). bind y (λ (w : Tree). got (bare w))) e in
-      let b : t ≡ bare t = cc in
-      let here : stands s (after h) ≡ got 0 r =
-      ap (λ (o : Bool). stands_as o 0 (drop h.at s)) q.reads ∙ ap (got 0) q.rest in
-      by_ops t r e b q.value (to_end (item_by snoc) [] r) refl
-      (g.reads ∙ ap (λ (y : Res ℕ). bind (bind y (λ (v : ℕ). to_end (item_by snoc) [])) (λ (os : List Op). got (held_of os))) here)
-  by_head (lost r) e i g =
-      let q = stands_lost h.ok (head_in h) (drop h.at s) r i in
-      let here : stands s (after h) ≡ lost r =
-      ap (λ (o : Bool). stands_as o 0 (drop h.at s)) q.0 ∙ ap lost q.1 in
-      let p = stands_lost f.ok f.held (drop f.at s) r
-      (g.reads ∙ ap (λ (y : Res ℕ). bind (bind y (λ (v : ℕ). to_end (item_by snoc) [])) (λ (os : List Op). got (held_of os))) here) in
-      came_lost p.0 (ap (λ (y : Res Tree). bind y (to_end item)) e ∙ ap lost (sym p.1))
+module _ {s : List ℕ} where
+  pub head_lost : {e : Lost} → Heads s (Err e) → text s ≡ lost (drop e.at s)
+  head_lost a = lost_by (text s) kept (ap (λ (x : Res KeptHead). bind x after_head) a.reads.reads ∙ text_kept s)
 
-  pub came : Heads s h → GoesOperators s (after h) f → Came s h f
-  came a g = by_head (head s) refl a.reads g
+  module _ {h : Read TextHead} (a : Heads s (Ok h)) where
+    rest_of : bind (ops_kept (drop h.at s)) (with_head (head_in h.value)) ≡ bind (text s) (λ (t : Tree). got (kept t))
+    rest_of = ap (λ (x : Res KeptHead). bind x after_head) a.reads.reads ∙ text_kept s
+
+    pub operators_lost : {e : Lost} → ReadsOperators s h.at (Err e) → text s ≡ lost (drop e.at s)
+    operators_lost g = lost_by (text s) kept (ap (λ (x : Res HeldOperators). bind x (with_head (head_in h.value))) g.reads ∙ rest_of)
+
+    pub came : {f : Read HeldOperators} → ReadsOperators s h.at (Ok f) → Came s h.value f.value
+    came {f} g =
+        let w = was (text s) kept (ap (λ (x : Res HeldOperators). bind x (with_head (head_in h.value))) g.reads ∙ rest_of) in
+        let good = good_of s w.value (drop f.at s) w.reads (exactly s) in
+        record {
+          tree = w.value;
+          reads = good.1;
+          good = good.0;
+          head = ap (λ (p : KeptHead × HeldOperators). p.0) w.same;
+          held = ap (λ (p : KeptHead × HeldOperators). p.1) w.same;
+        }

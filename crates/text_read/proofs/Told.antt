@@ -2,12 +2,12 @@
 -- Assumes nothing.
 use Prim.Native.Nat.{ℕ, ◌-◌, ◌<◌, ◌≤◌}
 use mathlib.Core.Path.{◌≡◌, refl, ap, ◌∙◌, sym, subst}
-use mathlib.Core.Bool.{Bool, true, false, cond}
+use mathlib.Core.Bool.{Bool, false, cond}
 use mathlib.Core.List.{List, []}
 use mathlib.Core.Option.{some, none}
 use native.Mathlib.Omega.{arith}
 use lib.ListN.{length, drop, length-drop}
-use Rattle.std.specs.Prelude.{Result}
+use Rattle.std.specs.Prelude.{Result, Ok, Err}
 use Rattle.std.specs.Result.{result_unwrap_or}
 use Rattle.base_lists.specs.Lists.{build}
 use Rattle.base_lists.proofs.Build.{never}
@@ -18,6 +18,8 @@ use Rattle.sheet.specs.Sheet.{view_sheet, memory_sheet, no_sheet}
 use Rattle.sheet.specs.Check.{check_of}
 use Rattle.sheet.proofs.Accepted.{ranges_of_accepted}
 use Rattle.sheet.proofs.Placed.{view_back}
+use Rattle.text_scan.specs.declared.Read.{Read}
+use Rattle.text_scan.specs.declared.Lost.{Lost}
 use Rattle.text_scan.specs.Reader.{Res, got, lost}
 use Rattle.text_grammar.specs.Readers.{Tree, text}
 use Rattle.text_grammar.specs.Tokens.{GoodTree}
@@ -26,17 +28,18 @@ use Rattle.text_form.specs.Form.{outputs_of, inputs_of, tree_of, sheet_of}
 use Rattle.text_form.specs.Reading.{TextPaper, outside, spotted, is_read, byte_of, same_list, lists_answer, tree_answer, TextReading, read_tree, read_text_of}
 use Rattle.text_form.proofs.GoodSheet.{small_ops}
 use Rattle.text_lists.specs.Names.{kept_of}
-use Rattle.text_tree.specs.declared.HeadFound.{HeadFound}
-use Rattle.text_tree.specs.declared.OperatorsFound.{OperatorsFound}
-use Rattle.text_tree.specs.Tree.{KeptHead, head_of, head_in, held_of, GoesOperators, Heads}
+use Rattle.text_tree.specs.declared.TextHead.{TextHead}
+use Rattle.text_tree.specs.declared.HeldOperators.{HeldOperators}
+use Rattle.text_tree.specs.Tree.{KeptHead, head_of, head_in, held_of, ReadsOperators, Heads, Begins}
 use Rattle.text_sheet.specs.Built.{highest_in, built}
 use Rattle.text_sheet.proofs.BuiltLaws.{of_text, highest_small, check_built, built_is}
 use Rattle.text_own.specs.Own.{same_kept}
 use Rattle.text_own.proofs.Own.{same_kept_lem, outputs_short, inputs_short}
 use Rattle.text_read.specs.declared.TextRefusal.{TextRefusal}
+use Rattle.text_read.specs.declared.TextRefusal.TheVariants as refusal
 use Rattle.text_read.specs.Answer.{text_paper}
-use Rattle.text_read.specs.Reads.{kept_answer, ListsRead, ReadsText}
-use Rattle.text_read.proofs.Came.{after, Came, came_lost, came_got, came}
+use Rattle.text_read.specs.Reads.{kept_answer, ReadsText}
+use Rattle.text_read.proofs.Came.{head_lost, operators_lost, Came}
 
 -- a place in the text is the byte at which what is left begins
 byte_at : (s left : List ℕ) (at : ℕ) → at ≤ length s → drop at s ≡ left → byte_of s left ≡ at
@@ -64,20 +67,20 @@ module _ (s : List ℕ) (t : Tree) (reads : text s ≡ got t []) (g : GoodTree t
       told ∙ ap (λ (p : TextPaper). record { answer = p; sheet = cond (is_read p) (memory_sheet (sheet_of t)) no_sheet }) (answer_of (some x) e)
 
   -- or accepted: then its lists decide
-  module _ (h : HeadFound) (a : Heads s h) (same : head_in h ≡ head_of t) (good : check_of (of_text t g) ≡ accepted) where
+  module _ (h : TextHead) (a : Begins s h) (same : head_in h ≡ head_of t) (good : check_of (of_text t g) ≡ accepted) where
     accepted_too : check_of (memory_sheet (sheet_of t)) ≡ accepted
     accepted_too = sym (check_built t g) ∙ good
 
     view_is : view_sheet (memory_sheet (sheet_of t)) ≡ sheet_of t
     view_is = view_back (sheet_of t) (ranges_of_accepted (memory_sheet (sheet_of t)) accepted_too).count (small_ops g.ops)
 
-    same_outputs : same_kept h.outputs (kept_of (outputs_of (view_sheet (memory_sheet (sheet_of t))))) ≡ same_list t.outputs (outputs_of (sheet_of t))
+    same_outputs : same_kept h.outputs.names (kept_of (outputs_of (view_sheet (memory_sheet (sheet_of t))))) ≡ same_list t.outputs (outputs_of (sheet_of t))
     same_outputs =
         ap (λ (k : KeptHead). same_kept k.outputs (kept_of (outputs_of (view_sheet (memory_sheet (sheet_of t)))))) same
         ∙ same_kept_lem t.outputs (outputs_of (view_sheet (memory_sheet (sheet_of t)))) (outputs_short (memory_sheet (sheet_of t)) accepted_too)
         ∙ ap (λ (v : Abstract). same_list t.outputs (outputs_of v)) view_is
 
-    same_inputs : same_kept h.inputs (kept_of (build (length t.inputs) (λ (q : ℕ). q))) ≡ same_list t.inputs (inputs_of (sheet_of t))
+    same_inputs : same_kept h.inputs.names (kept_of (build (length t.inputs) (λ (q : ℕ). q))) ≡ same_list t.inputs (inputs_of (sheet_of t))
     same_inputs =
         ap (λ (k : KeptHead). same_kept k.inputs (kept_of (build (length t.inputs) (λ (q : ℕ). q)))) same
         ∙ same_kept_lem t.inputs (build (length t.inputs) (λ (q : ℕ). q)) (inputs_short (memory_sheet (sheet_of t)) accepted_too)
@@ -88,8 +91,8 @@ module _ (s : List ℕ) (t : Tree) (reads : text s ≡ got t []) (g : GoodTree t
 
     kept_is : kept_answer h (memory_sheet (sheet_of t)) ≡ lists_answer s t (tree_of (sheet_of t))
     kept_is =
-        lists_by_lem same_outputs same_inputs (sym (byte_at s (from_outputs s) h.outputs_at a.outputs_in_lem a.outputs_begin))
-        (sym (byte_at s (from_inputs s) h.inputs_at a.inputs_in a.inputs_begin))
+        lists_by_lem same_outputs same_inputs (sym (byte_at s (from_outputs s) h.outputs.start a.outputs_in_lem a.outputs_begin))
+        (sym (byte_at s (from_inputs s) h.inputs.start a.inputs_in a.inputs_begin))
 
     tree_lists : read_text_of s
         ≡ record { answer = kept_answer h (of_text t g); sheet = cond (is_read (kept_answer h (of_text t g))) (of_text t g) no_sheet }
@@ -99,53 +102,41 @@ module _ (s : List ℕ) (t : Tree) (reads : text s ≡ got t []) (g : GoodTree t
 
 -- ---- what the answer is by the check of the sheet that was built
 
-pub record Told (s : List ℕ) (h : HeadFound) (b : Sheet) : Type 0 where
+pub record Told (s : List ℕ) (h : TextHead) (b : Sheet) : Type 0 where
   pub refused : (p : Paper) → check_of b ≡ p → is_accepted p ≡ false → read_text_of s ≡ record { answer = spotted p; sheet = no_sheet }
   pub lists : check_of b ≡ accepted → read_text_of s ≡ record { answer = kept_answer h b; sheet = cond (is_read (kept_answer h b)) b no_sheet }
 
-module _ (s : List ℕ) (h : HeadFound) (f : OperatorsFound) (a : Heads s h) (g : GoesOperators s (after h) f) where
-  outside_by : Came s h f → f.ok ≡ false → read_text_of s ≡ record { answer = outside f.at; sheet = no_sheet }
-  outside_by (came_lost k e) n =
-      read_as s (lost (drop f.at s)) e
-      ∙ ap (λ (b : ℕ). record { answer = outside b; sheet = no_sheet }) (byte_at s (drop f.at s) f.at g.within refl)
-  outside_by (came_got t k e w x y) n = never (sym n ∙ k)
-
-  pub told_outside : f.ok ≡ false → read_text_of s ≡ record { answer = outside f.at; sheet = no_sheet }
-  told_outside = outside_by (came s h f a g)
-
-  small_by : Came s h f → f.ok ≡ true → highest_in h.inputs f.held < 255
-  small_by (came_lost k e) y = never (sym k ∙ y)
-  small_by (came_got t k e w x z) y =
-      let m : highest_in h.inputs f.held ≡ highest_in (kept_of t.inputs) (held_of t.ops) =
-      ap (λ (q : KeptHead). highest_in q.inputs f.held) x ∙ ap (highest_in (kept_of t.inputs)) z in
-      let l = highest_small t w in
+module _ {s : List ℕ} {h : TextHead} {f : HeldOperators} (c : Came s h f) where
+  pub told_small : highest_in h.inputs.names f < 255
+  told_small =
+      let m : highest_in h.inputs.names f ≡ highest_in (kept_of c.tree.inputs) (held_of c.tree.ops) =
+      ap (λ (q : KeptHead). highest_in q.inputs f) c.head ∙ ap (highest_in (kept_of c.tree.inputs)) c.held in
+      let l = highest_small c.tree c.good in
       omega arith
 
-  pub told_small : f.ok ≡ true → highest_in h.inputs f.held < 255
-  told_small = small_by (came s h f a g)
-
-  told_by : Came s h f → f.ok ≡ true → Told s h (built h.inputs h.variables f.held)
-  told_by (came_lost k e) y = never (sym k ∙ y)
-  told_by (came_got t k e w x z) y =
-      let b : built h.inputs h.variables f.held ≡ of_text t w =
-      ap (λ (q : KeptHead). built q.inputs q.variables f.held) x ∙ ap (built (kept_of t.inputs) t.variables) z in
-      subst (Told s h) (sym b) (record { refused = tree_refused s t e w; lists = tree_lists s t e w h a x })
-
-  pub told_of_check : f.ok ≡ true → Told s h (built h.inputs h.variables f.held)
-  told_of_check = told_by (came s h f a g)
+  pub told_of_check : Begins s h → {b : Sheet} → b ≡ built h.inputs.names h.variables f → Told s h b
+  told_of_check a {b} e =
+      let d : b ≡ of_text c.tree c.good =
+      e ∙ ap (λ (q : KeptHead). built q.inputs q.variables f) c.head ∙ ap (built (kept_of c.tree.inputs) c.tree.variables) c.held in
+      subst (Told s h) (sym d)
+      (record { refused = tree_refused s c.tree c.reads c.good; lists = tree_lists s c.tree c.reads c.good h a c.head })
 
 -- ---- the functions' answers
-
-pub lists_told : (h : HeadFound) (t : Sheet) (r : Result Sheet TextRefusal) (x y : Bool) → same_kept h.outputs (kept_of (outputs_of (view_sheet t))) ≡ x →
-    same_kept h.inputs (kept_of (build t.inputs (λ (q : ℕ). q))) ≡ y →
-    text_paper r ≡ cond x (cond y none (outside h.inputs_at)) (outside h.outputs_at) →
-    result_unwrap_or r no_sheet ≡ cond (is_read (cond x (cond y none (outside h.inputs_at)) (outside h.outputs_at))) t no_sheet → ListsRead h t r
-lists_told h t r x y e d a b = record { answer = rw (e, d) a; sheet = rw (e, d) b }
 
 pub reads_told : (s : List ℕ) (r : Result Sheet TextRefusal) (p : TextPaper) (b : Sheet) → read_text_of s ≡ record { answer = p; sheet = b } → text_paper r ≡ p →
     result_unwrap_or r no_sheet ≡ b → ReadsText s r
 reads_told s r p b e a c =
     record { answer = a ∙ sym (ap (λ (x : TextReading). x.answer) e); sheet = c ∙ sym (ap (λ (x : TextReading). x.sheet) e) }
 
-pub told_as : (s : List ℕ) (h : HeadFound) {b c : Sheet} → c ≡ b → Told s h b → Told s h c
-told_as s h e t = subst (Told s h) (sym e) t
+module _ {s : List ℕ} where
+  outside_told : (e : Lost) → e.at ≤ length s → text s ≡ lost (drop e.at s) → ReadsText s (Err (refusal.Outside e.at))
+  outside_told e l f =
+      reads_told s _ _ _
+      (read_as s (lost (drop e.at s)) f
+      ∙ ap (λ (b : ℕ). record { answer = outside b; sheet = no_sheet }) (byte_at s (drop e.at s) e.at l refl)) refl refl
+
+  pub head_told : {e : Lost} → Heads s (Err e) → ReadsText s (Err (refusal.Outside e.at))
+  head_told {e} a = outside_told e a.reads.within (head_lost a)
+
+  pub operators_told : {h : Read TextHead} {e : Lost} → Heads s (Ok h) → ReadsOperators s h.at (Err e) → ReadsText s (Err (refusal.Outside e.at))
+  operators_told {h} {e} a g = outside_told e g.within (operators_lost a g)

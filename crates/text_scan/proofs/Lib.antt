@@ -3,7 +3,7 @@ pub mod Exact
 pub mod ExactBytes
 pub mod Whole
 pub mod Places
-pub mod Going
 pub mod Sound
 pub mod Mapped
 pub mod Filled
+pub mod Going

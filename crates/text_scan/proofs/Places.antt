@@ -2,18 +2,22 @@
 -- Assumes nothing.
 use Prim.Native.Nat.{ℕ, zero, suc, ◌+◌, ◌<◌, ◌≤◌}
 use mathlib.Core.Path.{◌≡◌, refl, ap, ◌∙◌, sym}
-use mathlib.Core.Bool.{Bool, true, false, cond, ◌||◌, ◌&&◌}
+use mathlib.Core.Bool.{Bool, true, false, cond, ◌||◌}
 use mathlib.Core.List.{List, [], ◌∷◌}
 use native.Mathlib.Omega.{arith}
 use native.Mathlib.Numerals.{add-one}
-use lib.Dec.{eqb, ltb, leb}
+use lib.Dec.{eqb, ltb}
 use lib.ListN.{length, get_or, drop}
 use lib.Seq.{drop-cons}
-use borrow.Author.Tests.{eq-eqb, ne_eqb, lt-ltb, le-ltb, leb-true}
+use borrow.Author.Tests.{eq-eqb, ne_eqb, leb-true}
+use mathlib.Core.Path.{ap₂}
+use mathlib.Core.Logic.{⊎_elim}
+use Rattle.std.specs.List.{list_any}
+use Rattle.base_lists.proofs.Build.{same_or}
 use Rattle.base_lists.specs.Lists.{member}
-use Rattle.base_lists.proofs.Tests.{or_left, both, neither_of}
+use Rattle.base_lists.proofs.Tests.{both}
 use Rattle.text_scan.specs.Reader.{got, lost, is_blank, is_digit, here, sign, digits, goes_on, digit_on}
-use Rattle.text_scan.specs.Cursor.{after_blanks}
+use Rattle.text_scan.specs.Reads.{after_blanks}
 
 pub one_more : (s : List ℕ) (i : ℕ) → i < length s → drop i s ≡ get_or s i 0 ∷ drop (i + 1) s
 one_more s i h = rw (add-one, drop-cons s i 0)
@@ -24,26 +28,17 @@ no_more [] (suc i) h = refl
 no_more (x ∷ s) zero h = absurd (omega arith)
 no_more (x ∷ s) (suc i) h = no_more s i (omega arith)
 
--- ---- among
+-- ---- one of some bytes
 
-module _ (b : ℕ) (ms : List ℕ) (i : ℕ) where
-  pub among_found : i < length ms → get_or ms i 0 ≡ b → member b (drop i ms) ≡ true
-  among_found h e = rw (one_more ms i h) (or_left _ _ (eq-eqb b (get_or ms i 0) (sym e)))
+eqb_either : (x y : ℕ) → eqb x y ≡ eqb y x
+eqb_either x y =
+    ⊎_elim (λ (e : x ≡ y). eq-eqb x y e ∙ sym (eq-eqb y x (sym e))) (λ (n : x ≡ y → ⊥). ne_eqb x y n ∙ sym (ne_eqb y x (λ e. n (sym e)))) (same_or x y)
 
-  pub among_goes : i < length ms → (get_or ms i 0 ≡ b → ⊥) → member b (drop (i + 1) ms) ≡ member b (drop i ms)
-  among_goes h e = sym (ap (member b) (one_more ms i h) ∙ ap (λ (x : Bool). x || member b (drop (i + 1) ms)) (ne_eqb b (get_or ms i 0) (λ f. e (sym f))))
-
-  pub among_ends : length ms ≤ i → member b (drop i ms) ≡ false
-  among_ends h = ap (member b) (no_more ms i h)
+pub contains_member : (b : ℕ) (ms : List ℕ) → list_any (λ (y : ℕ). eqb y b) ms ≡ member b ms
+contains_member b [] = refl
+contains_member b (m ∷ ms) = ap₂ (λ (x y : Bool). x || y) (eqb_either m b) (contains_member b ms)
 
 -- ---- blanks
-
--- bytes above a space are none
-pub not_blank : (b : ℕ) → 32 < b → false ≡ is_blank b
-not_blank b h =
-    let above : (k : ℕ) → k ≤ 32 → eqb b k ≡ false = λ k l. ne_eqb b k (λ e. omega arith) in
-    sym (neither_of (eqb b 32) _ (above 32 (omega arith)) (neither_of (eqb b 9) _ (above 9 (omega arith)) (neither_of (eqb b 10) _ (above 10 (omega arith))
-    (neither_of (eqb b 13) _ (above 13 (omega arith)) refl))))
 
 module _ (s : List ℕ) (i : ℕ) where
   pub blank_ends : length s ≤ i → drop i s ≡ after_blanks (drop i s)
@@ -82,32 +77,9 @@ module _ (s ms : List ℕ) (at : ℕ) where
   unfolding here
   here_is h e = rw (one_more s at h) (sym (ap (λ (c : Bool). cond c (got (get_or s at 0) (drop (at + 1) s)) (lost (get_or s at 0 ∷ drop (at + 1) s))) e))
 
--- ---- one byte that is given
-
-module _ (s : List ℕ) (b at : ℕ) (h : at < length s) where
-  pub letter_not : (get_or s at 0 ≡ b → ⊥) → lost (drop at s) ≡ here (b ∷ []) (drop at s)
-  letter_not n = here_not s (b ∷ []) at h (neither_of (eqb (get_or s at 0) b) false (ne_eqb (get_or s at 0) b n) refl)
-
-  pub letter_is : get_or s at 0 ≡ b → got b (drop (at + 1) s) ≡ here (b ∷ []) (drop at s)
-  letter_is e =
-      ap (λ (x : ℕ). got x (drop (at + 1) s)) (sym e) ∙ here_is s (b ∷ []) at h (or_left (eqb (get_or s at 0) b) false (eq-eqb (get_or s at 0) b e))
-
 -- ---- digits
 
 module _ (top n b : ℕ) where
-  pub not_digit : is_digit b ≡ false → false ≡ goes_on top n b
-  not_digit h = sym (ap (λ (x : Bool). x && (ltb 0 n && leb (digit_on n b) top)) h)
-
-  pub after_zero : is_digit b ≡ true → n ≡ 0 → false ≡ goes_on top n b
-  after_zero h e = sym (ap (λ (x : Bool). x && (ltb 0 n && leb (digit_on n b) top)) h ∙ ap (λ (x : Bool). x && leb (digit_on n b) top) (le-ltb 0 n (omega arith)))
-
-  pub by_size : is_digit b ≡ true → (n ≡ 0 → ⊥) → leb (digit_on n b) top ≡ goes_on top n b
-  by_size h e = sym (ap (λ (x : Bool). x && (ltb 0 n && leb (digit_on n b) top)) h ∙ ap (λ (x : Bool). x && leb (digit_on n b) top) (lt-ltb 0 n (positive n e)))
-    where
-      positive : (n : ℕ) → (n ≡ 0 → ⊥) → 0 < n
-      positive zero e = absurd (e refl)
-      positive (suc n) e = omega arith
-
   pub goes_small : goes_on top n b ≡ true → digit_on n b ≤ top
   goes_small h = leb-true _ _ (both (ltb 0 n) _ (both (is_digit b) _ h).1).1
 

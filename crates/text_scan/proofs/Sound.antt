@@ -7,14 +7,11 @@ use mathlib.Core.Bool.{Bool, true, cond}
 use mathlib.Core.List.{List, [], ◌∷◌}
 use native.Mathlib.Omega.{arith}
 use lib.Dec.{eqb, leb}
-use lib.ListN.{drop}
 use borrow.Author.Tests.{leb-true, eqb-true}
 use Rattle.base_lists.specs.Lists.{member, all}
 use Rattle.base_lists.proofs.Build.{never}
 use Rattle.base_lists.proofs.Tests.{both, or_cases}
-use Rattle.text_scan.specs.declared.Cursor.{Cursor}
 use Rattle.text_scan.specs.Reader.{Res, got, lost, Reader, bind, here, digits, digit_on, goes_on}
-use Rattle.text_scan.specs.Cursor.{stands_as, stands}
 use Rattle.text_scan.proofs.Exact.{either}
 use Rattle.text_scan.proofs.Places.{goes_small}
 
@@ -63,10 +60,3 @@ digits_small top n (b ∷ s) {m} {r} h e =
     (λ g. let f : got n (b ∷ s) ≡ got m r = sym (ap (λ (c : Bool). cond c (digits top (digit_on n b) s) (got n (b ∷ s))) g) ∙ e in
     let i : n ≡ m = cc in omega arith)
     (either (goes_on top n b))
-
--- a cursor that stands somewhere has the value that was read
-pub read_value : (s : List ℕ) (c d : Cursor) (P : ℕ → Reader ℕ) (k : ℕ) → stands s d ≡ bind (stands s c) P →
-    ((x : ℕ) (t : List ℕ) (m : ℕ) (r : List ℕ) → P x t ≡ got m r → m ≤ k) → d.ok ≡ true → d.value ≤ k
-read_value s c d P k e h o =
-    let f = between (stands s c) P {b = d.value} {r = drop d.at s} (sym e ∙ ap (λ (b : Bool). stands_as b d.value (drop d.at s)) o) in
-    h f.value f.rest d.value (drop d.at s) f.second

@@ -1,3 +1,3 @@
 pub mod Reader
-pub mod Cursor
+pub mod Reads
 pub mod Kept

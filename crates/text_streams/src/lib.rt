@@ -1,7 +1,8 @@
-// What `to_text` and `to_bytes` do with the streams: the input into lent bytes, and what they put out to one of the two outputs.
+// What `to_text` and `to_bytes` do with the streams: the input into lent bytes, and what they put out to one of
+// the two outputs.
 #![tactic(auto)]
 
-ghost use Rattle.std.specs.Prelude.{◌<◌, ◌≤◌, ◌≡◌, length};
+ghost use Rattle.std.specs.Prelude.{◌<◌, ◌≤◌, ◌≡◌, length, MatchResult};
 
 use base_input::Filled;
 use std::io::Stdin;
@@ -22,11 +23,24 @@ pub fn take(stdin: Stdin, s: &mut [u8]) -> Filled
     f
 }
 
-// The bytes that a program puts out, to standard error where it failed.
-pub fn send(s: &[u8], failed: bool) {
-    if failed {
-        io::write_all(STANDARD_ERROR, s);
+// A program on the streams: the input into lent bytes, and as many bytes at the buffer's front as the program
+// answers to standard output, or with `Err` to standard error.
+pub fn run<F: FnOnce(&[u8], &mut [u8]) -> Result<usize, usize>>(
+    stdin: Stdin,
+    input: &mut [u8],
+    buffer: &mut [u8],
+    program: F,
+)
+    requires callable { (s : _) (lent : _) → length lent.now ≡ length buffer.old → F.pre program s lent }
+    requires within { (s : _) (lent : _) (r : _) (left : _) → F.post program s lent r left
+        → MatchResult r (λ n. n ≤ length left.now) (λ n. n ≤ length left.now) }
+{
+    let f = take(stdin, input);
+    if f.failed {
         return;
     }
-    io::write_all(STANDARD_OUTPUT, s);
+    match program(&input[..f.end], &mut *buffer) {
+        Ok(n) => io::write_all(STANDARD_OUTPUT, &buffer[..n]),
+        Err(n) => io::write_all(STANDARD_ERROR, &buffer[..n]),
+    };
 }

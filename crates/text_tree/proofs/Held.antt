@@ -5,7 +5,6 @@ use mathlib.Core.Path.{◌≡◌, refl, ap, ◌∙◌, sym}
 use mathlib.Core.Logic.{⊎_elim}
 use mathlib.Core.Bool.{Bool, cond}
 use mathlib.Core.List.{List, [], ◌∷◌, map, map-append}
-use native.Mathlib.Omega.{arith}
 use lib.Dec.{leb}
 use lib.ListN.{length, get_or, set, length-map}
 use borrow.Author.Tests.{le-leb, lt-leb}
@@ -45,10 +44,6 @@ set_own : {A : Type 0} (l : List A) (k : ℕ) (d : A) → set l k (get_or l k d)
 set_own [] k d = refl
 set_own (x ∷ l) zero d = refl
 set_own (x ∷ l) (suc k) d = ap (x ∷◌) (set_own l k d)
-
-pub place_low : (k : ℕ) → next_place k < OPERATORS
-place_low k =
-    ⊎_elim (λ (l : k < OPERATORS). rw (lt-leb OPERATORS k l) l) (λ (l : OPERATORS ≤ k). rw (le-leb OPERATORS k l) (omega arith)) (order k OPERATORS)
 
 module _ (h : HeldOperators) (p n : ℕ) (past old new o : Operator) (at : p ≡ next_place h.count) (stood : old ≡ get_or h.operators p past)
     (then : o ≡ cond (leb OPERATORS h.count) old new) (now : n ≡ next_count h.count) where

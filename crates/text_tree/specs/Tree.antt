@@ -1,22 +1,21 @@
 -- What the program keeps of a text's head and operators, and what reading them answers.
-use Rattle.std.specs.Prelude.{ℕ, suc, ◌+◌, ◌-◌, ◌≤◌, ◌≡◌, cond, List, [], map, leb, length, drop, set}
+use Rattle.std.specs.Prelude.{ℕ, suc, ◌+◌, ◌-◌, ◌≤◌, ◌≡◌, cond, List, [], map, leb, length, drop, set, Result, IfOk}
 use Rattle.base_bounds.specs.Bounds.{OPERATORS}
 use Rattle.base_lists.specs.Lists.{pad}
 use Rattle.sheet_operator.specs.Op.{Op}
 use Rattle.sheet_operator.specs.Memory.{memory, no_operator}
 use Rattle.sheet_operator.specs.declared.Operator.{Operator}
-use Rattle.text_scan.specs.declared.Cursor.{Cursor}
+use Rattle.text_scan.specs.declared.Read.{Read}
+use Rattle.text_scan.specs.declared.Lost.{Lost}
 use Rattle.text_scan.specs.Reader.{got, bind, to_end}
 use Rattle.text_scan.specs.Kept.{counted}
-use Rattle.text_scan.specs.Cursor.{stands_as, stands}
+use Rattle.text_scan.specs.Reads.{same, Reads}
 use Rattle.text_grammar.specs.Readers.{Tree, snoc, head, item_by}
 use Rattle.text_grammar.specs.Begins.{from_outputs, from_inputs}
-use Rattle.text_ways.specs.declared.Found.{Found}
 use Rattle.text_lists.specs.declared.KeptNames.{KeptNames}
 use Rattle.text_lists.specs.Names.{kept_of}
 use Rattle.text_tree.specs.declared.HeldOperators.{HeldOperators}
-use Rattle.text_tree.specs.declared.OperatorsFound.{OperatorsFound}
-use Rattle.text_tree.specs.declared.HeadFound.{HeadFound}
+use Rattle.text_tree.specs.declared.TextHead.{TextHead}
 
 -- the first operators in their places, and how many there are; one past the places stands for any more
 abbrev pub held_of : List Op → HeldOperators
@@ -44,14 +43,12 @@ abbrev pub itself : Operator → Op → Operator
 itself old o = memory o
 
 -- one operator and its semicolon
-pub record GoesItem (s : List ℕ) (c : Cursor) (r : Found) : Type 0 where
-  pub within : r.at ≤ length s
-  pub reads : stands_as r.ok r.op (drop r.at s) ≡ bind (stands s c) (λ (x : ℕ). item_by itself no_operator)
+abbrev pub ReadsItem : List ℕ → ℕ → Result (Read Operator) Lost → Type 0
+ReadsItem s at r = Reads same s at (item_by itself no_operator) r
 
 -- the operators up to the end
-pub record GoesOperators (s : List ℕ) (c : Cursor) (r : OperatorsFound) : Type 0 where
-  pub within : r.at ≤ length s
-  pub reads : stands_as r.ok r.held (drop r.at s) ≡ bind (bind (stands s c) (λ (x : ℕ). to_end (item_by snoc) [])) (λ (os : List Op). got (held_of os))
+abbrev pub ReadsOperators : List ℕ → ℕ → Result (Read HeldOperators) Lost → Type 0
+ReadsOperators s at r = Reads same s at (λ (t : List ℕ). bind (to_end (item_by snoc) [] t) (λ (os : List Op). got (held_of os))) r
 
 -- the head: what is kept of its lists, where they begin, and the variables
 pub record KeptHead : Type 0 where
@@ -62,13 +59,15 @@ pub record KeptHead : Type 0 where
 abbrev pub head_of : Tree → KeptHead
 head_of t = record { outputs = kept_of t.outputs; inputs = kept_of t.inputs; variables = t.variables }
 
-abbrev pub head_in : HeadFound → KeptHead
-head_in r = record { outputs = r.outputs; inputs = r.inputs; variables = r.variables }
+abbrev pub head_in : TextHead → KeptHead
+head_in r = record { outputs = r.outputs.names; inputs = r.inputs.names; variables = r.variables }
 
-pub record Heads (s : List ℕ) (r : HeadFound) : Type 0 where
-  pub within : r.at ≤ length s
-  pub reads : stands_as r.ok (head_in r) (drop r.at s) ≡ bind (head s) (λ (t : Tree). got (head_of t))
-  pub outputs_in_lem : r.outputs_at ≤ length s
-  pub outputs_begin : drop r.outputs_at s ≡ from_outputs s
-  pub inputs_in : r.inputs_at ≤ length s
-  pub inputs_begin : drop r.inputs_at s ≡ from_inputs s
+pub record Begins (s : List ℕ) (h : TextHead) : Type 0 where
+  pub outputs_in_lem : h.outputs.start ≤ length s
+  pub outputs_begin : drop h.outputs.start s ≡ from_outputs s
+  pub inputs_in : h.inputs.start ≤ length s
+  pub inputs_begin : drop h.inputs.start s ≡ from_inputs s
+
+pub record Heads (s : List ℕ) (r : Result (Read TextHead) Lost) : Type 0 where
+  pub reads : Reads head_in s 0 (λ (t : List ℕ). bind (head t) (λ (u : Tree). got (head_of u))) r
+  pub begins : IfOk r (λ (x : Read TextHead). Begins s x.value)

@@ -3,14 +3,12 @@
 
 ghost use Rattle.std.specs.Prelude.{◌≡◌, cond, ◌≤◌, length, leb};
 ghost use Rattle.base_bounds.specs.Bounds.{OPERATORS};
-ghost use Rattle.text_grammar.specs.Readers.{head};
-ghost use Rattle.text_tree.specs.Tree.{none, next_place, next_count, GoesOperators, GoesItem, Heads};
+ghost use Rattle.text_tree.specs.Tree.{none, next_place, next_count, ReadsOperators, ReadsItem, Heads};
 
 use base_bounds::OPERATORS;
 use sheet_operator::Operator;
-use text_lists::KeptNames;
-use text_scan::Cursor;
-use text_ways::Found;
+use text_lists::NameList;
+use text_scan::{Lost, Read};
 
 pub const HELD: usize = OPERATORS as usize;
 
@@ -21,22 +19,11 @@ pub struct HeldOperators {
     pub operators: [Operator; HELD],
 }
 
+// The lists of the head, and the variables.
 #[derive(Clone, Copy)]
-pub struct OperatorsFound {
-    pub ok: bool,
-    pub at: usize,
-    pub held: HeldOperators,
-}
-
-// The lists of the head, where each begins, the variables, and where reading stands after it.
-#[derive(Clone, Copy)]
-pub struct HeadFound {
-    pub ok: bool,
-    pub at: usize,
-    pub outputs: KeptNames,
-    pub outputs_at: usize,
-    pub inputs: KeptNames,
-    pub inputs_at: usize,
+pub struct TextHead {
+    pub outputs: NameList,
+    pub inputs: NameList,
     pub variables: u8,
 }
 
@@ -81,101 +68,62 @@ fn next_count(k: u8) -> u8
 }
 
 // One operator and the semicolon after it.
-fn item(s: &[u8], c: Cursor) -> Found
-    requires { c.at ≤ length s.now }
-    ensures { GoesItem s.now c result }
+fn item(s: &[u8], at: usize) -> Result<Read<Operator>, Lost>
+    requires { at ≤ length s.now }
+    ensures { ReadsItem s.now at result }
 {
-    let f = text_operators::operator(s, c);
-    let op = f.op;
-    let d = Cursor {
-        ok: f.ok,
-        at: f.at,
-        value: 0,
-    };
-    let m = text_scan::mark(s, d, b';');
-    Found {
-        ok: m.ok,
-        at: m.at,
-        op,
-    }
+    let op = text_operators::operator(s, at)?;
+    let mark = text_scan::sign(s, op.at, b";")?;
+    Ok(Read {
+        value: op.value,
+        at: mark.at,
+    })
 }
 
 // The operators up to the end of the text. Each is stored in its place, so that the others are not copied.
-pub fn operators(s: &[u8], c: Cursor) -> OperatorsFound
-    requires { c.at ≤ length s.now }
-    ensures { GoesOperators s.now c result }
+pub fn operators(s: &[u8], at: usize) -> Result<Read<HeldOperators>, Lost>
+    requires { at ≤ length s.now }
+    ensures { ReadsOperators s.now at result }
 {
-    let mut d = c;
     let mut held = no_operators();
-    while d.ok {
-        let end = text_scan::skip(s, d.at);
+    let mut from = at;
+    loop {
+        let end = text_scan::skip(s, from);
         if end == s.len() {
-            return OperatorsFound {
-                ok: true,
+            return Ok(Read {
+                value: held,
                 at: end,
-                held,
-            };
+            });
         }
-        let f = item(s, d);
-        let new = f.op;
-        let k = held.count;
-        let p = next_place(k);
-        let old = held.operators[p];
-        let o = chosen(k, old, new);
-        held.operators[p] = o;
-        held.count = next_count(k);
-        d = Cursor {
-            ok: f.ok,
-            at: f.at,
-            value: 0,
-        };
-    }
-    OperatorsFound {
-        ok: false,
-        at: d.at,
-        held,
+        let f = item(s, from)?;
+        let p = next_place(held.count);
+        held.operators[p] = chosen(held.count, held.operators[p], f.value);
+        held.count = next_count(held.count);
+        from = f.at;
     }
 }
 
 // `output`, `input` and `vars`, each with what belongs to it.
-pub fn head(s: &[u8]) -> HeadFound
+pub fn head(s: &[u8]) -> Result<Read<TextHead>, Lost>
     ensures { Heads s.now result }
 {
-    let c = Cursor {
-        ok: true,
-        at: 0,
-        value: 0,
-    };
-    let c = text_scan::mark(s, c, b'o');
-    let c = text_scan::spell(s, c, b"utput");
-    let o = text_lists::names(s, c);
-    let outputs = o.names;
-    let c = Cursor {
-        ok: o.ok,
-        at: o.at,
-        value: 0,
-    };
-    let c = text_scan::mark(s, c, b'i');
-    let c = text_scan::spell(s, c, b"nput");
-    let i = text_lists::names(s, c);
-    let inputs = i.names;
-    let c = Cursor {
-        ok: i.ok,
-        at: i.at,
-        value: 0,
-    };
-    let c = text_scan::mark(s, c, b'v');
-    let c = text_scan::spell(s, c, b"ars");
-    let c = text_scan::here(s, c, b" \t\n\r");
-    let v = text_names::byte(s, c);
-    let c = text_scan::mark(s, v, b';');
-    HeadFound {
-        ok: c.ok,
+    let c = text_scan::sign(s, 0, b"o")?;
+    let c = text_scan::spell(s, c.at, b"utput")?;
+    let outputs = text_lists::names(s, c.at)?;
+    let c = text_scan::sign(s, outputs.at, b"i")?;
+    let c = text_scan::spell(s, c.at, b"nput")?;
+    let inputs = text_lists::names(s, c.at)?;
+    let c = text_scan::sign(s, inputs.at, b"v")?;
+    let c = text_scan::spell(s, c.at, b"ars")?;
+    let c = text_scan::here(s, c.at, b" \t\n\r")?;
+    let v = text_names::byte(s, c.at)?;
+    let c = text_scan::sign(s, v.at, b";")?;
+    Ok(Read {
+        value: TextHead {
+            outputs: outputs.value,
+            inputs: inputs.value,
+            variables: v.value,
+        },
         at: c.at,
-        outputs,
-        outputs_at: o.start,
-        inputs,
-        inputs_at: i.start,
-        variables: v.value as u8,
-    }
+    })
 }

@@ -1,3 +1,1 @@
-pub mod FoundLaws
 pub mod WayLaws
-pub mod InPlaces

@@ -1,28 +1,17 @@
 // The operators with ways, a deal and a gather, from text, one reader after the other.
 #![tactic(auto)]
 
-ghost use Rattle.std.specs.Prelude.{◌≡◌, [], ◌∷◌, ◌≤◌, length};
+ghost use Rattle.std.specs.Prelude.{◌≡◌, [], ◌∷◌, ◌≤◌, length, IfOk};
 ghost use Rattle.base_words.specs.Text.{word};
 ghost use Rattle.sheet_operator.specs.Op.{deal, gather};
 ghost use Rattle.sheet_operator.specs.Memory.{memory};
 ghost use Rattle.text_scan.specs.Reader.{got, sign};
-ghost use Rattle.text_scan.specs.Cursor.{Goes};
+ghost use Rattle.text_scan.specs.Reads.{same, Reads};
 ghost use Rattle.text_grammar.specs.Readers.{ways, deal_to, deal_from, gather_to};
-ghost use Rattle.text_ways.specs.Found.{GoesTo, FilledWays, queues_of, GoesWays};
+ghost use Rattle.text_ways.specs.Found.{ReadsOp, FilledWays, queues_of};
 
 use sheet_operator::{Kind, Operator, PLACES};
-use text_scan::Cursor;
-
-// What tells a queue from a variable.
-pub const QUEUE: u32 = b'q' as u32;
-
-// An operator, and where reading stands after it.
-#[derive(Clone, Copy)]
-pub struct Found {
-    pub ok: bool,
-    pub at: usize,
-    pub op: Operator,
-}
+use text_scan::{Lost, Read};
 
 // The ways of a deal or a gather, in their places.
 #[derive(Clone, Copy)]
@@ -31,161 +20,130 @@ pub struct HeldWays {
     pub queues: [u8; PLACES],
 }
 
-#[derive(Clone, Copy)]
-pub struct WaysFound {
-    pub ok: bool,
-    pub at: usize,
-    pub ways: HeldWays,
-}
-
 // The next way, or the `$` of the variable.
-pub fn queue_or_variable(s: &[u8], c: Cursor) -> Cursor
-    requires { c.at ≤ length s.now }
-    ensures { Goes s.now c (λ _. sign (word "q$")) result }
+pub fn queue_or_variable(s: &[u8], at: usize) -> Result<Read<u8>, Lost>
+    requires { at ≤ length s.now }
+    ensures { Reads same s.now at (sign (word "q$")) result }
 {
-    text_scan::sign(s, c, b"q$")
+    text_scan::sign(s, at, b"q$")
 }
 
 // The ways behind the first two, up to the `$` of the variable. Each is stored in its place.
-fn ways(s: &[u8], c: Cursor, first: u8, second: u8) -> WaysFound
-    requires { c.at ≤ length s.now }
-    ensures { GoesWays s.now c (λ _. ways 2 (first ∷ second ∷ []) got) result }
+fn ways(s: &[u8], at: usize, first: u8, second: u8) -> Result<Read<HeldWays>, Lost>
+    requires { at ≤ length s.now }
+    ensures reads { Reads queues_of s.now at (ways 2 (first ∷ second ∷ []) got) result }
+    ensures filled { IfOk result (λ r. FilledWays r.value) }
 {
-    let mut d = c;
     let mut held = HeldWays {
         count: 2,
         queues: [first, second, 0, 0],
     };
-    let mut k: usize = PLACES - 2;
-    while 0 < k {
-        let b = queue_or_variable(s, d);
-        if b.value != QUEUE {
-            return WaysFound {
-                ok: b.ok,
+    let mut from = at;
+    for k in 2..PLACES {
+        let b = queue_or_variable(s, from)?;
+        if b.value != b'q' {
+            return Ok(Read {
+                value: held,
                 at: b.at,
-                ways: held,
-            };
+            });
         }
-        let q = text_names::decimal(s, b, text_names::LAST_QUEUE);
-        let n = held.count;
-        held.queues[n as usize] = q.value as u8;
-        held.count = n + 1;
-        d = text_scan::mark(s, q, b',');
-        k -= 1;
+        let q = text_names::queue_number(s, b.at)?;
+        held.queues[k] = q.value;
+        held.count += 1;
+        from = text_scan::sign(s, q.at, b",")?.at;
     }
-    let m = text_scan::mark(s, d, b'$');
-    WaysFound {
-        ok: m.ok,
-        at: m.at,
-        ways: held,
-    }
+    let end = text_scan::sign(s, from, b"$")?;
+    Ok(Read {
+        value: held,
+        at: end.at,
+    })
 }
 
+#[tactic(auto, using(base_lists::proofs::Build::build_length))]
 fn deal_of(v: u8, p: u8, w: HeldWays) -> Operator
     requires { FilledWays w }
     ensures { result ≡ memory (deal v p (queues_of w)) }
 {
-    let ins = [p, 0, 0, 0];
     let outs = w.queues;
-    let steps = [sheet_step::NO_STEP; PLACES];
     Operator {
         kind: Kind::Deal,
         count: w.count,
         variable: v,
         field: 0,
-        ins,
+        ins: [p, 0, 0, 0],
         outs,
-        steps,
+        steps: [sheet_step::NO_STEP; PLACES],
     }
 }
 
 // (.., $v) <- Deal(p, $v), from behind the first `$` on.
-fn deal_from(s: &[u8], c: Cursor, w: HeldWays) -> Found
-    requires { (c.at ≤ length s.now) × FilledWays w }
-    ensures { GoesTo s.now c (λ _. deal_from (queues_of w)) result }
+fn deal_from(s: &[u8], at: usize, w: HeldWays) -> Result<Read<Operator>, Lost>
+    requires { (at ≤ length s.now) × FilledWays w }
+    ensures { ReadsOp s.now at (deal_from (queues_of w)) result }
 {
-    let v = text_names::variable(s, c);
-    let variable = v.value as u8;
-    let c = text_scan::mark(s, v, b')');
-    let c = text_names::arrow(s, c);
-    let c = text_scan::mark(s, c, b'D');
-    let c = text_scan::spell(s, c, b"eal");
-    let c = text_scan::mark(s, c, b'(');
-    let p = text_names::queue(s, c);
-    let c = text_scan::mark(s, p, b',');
-    let c = text_scan::mark(s, c, b'$');
-    let c = text_names::variable_is(s, c, variable);
-    let c = text_scan::mark(s, c, b')');
-    let op = deal_of(variable, p.value as u8, w);
-    Found {
-        ok: c.ok,
+    let v = text_names::variable(s, at)?;
+    let c = text_scan::sign(s, v.at, b")")?;
+    let c = text_names::arrow(s, c.at)?;
+    let c = text_scan::sign(s, c.at, b"D")?;
+    let c = text_scan::spell(s, c.at, b"eal")?;
+    let c = text_scan::sign(s, c.at, b"(")?;
+    let p = text_names::queue(s, c.at)?;
+    let c = text_scan::sign(s, p.at, b",")?;
+    let c = text_scan::sign(s, c.at, b"$")?;
+    let c = text_names::variable_is(s, c.at, v.value)?;
+    let c = text_scan::sign(s, c.at, b")")?;
+    Ok(Read {
+        value: deal_of(v.value, p.value, w),
         at: c.at,
-        op,
-    }
+    })
 }
 
 // (q, r, .., $v) <- Deal(p, $v), from behind the second comma on.
-pub fn deal(s: &[u8], c: Cursor, q: u8, r: u8) -> Found
-    requires { c.at ≤ length s.now }
-    ensures { GoesTo s.now c (λ _. deal_to q r) result }
+pub fn deal(s: &[u8], at: usize, q: u8, r: u8) -> Result<Read<Operator>, Lost>
+    requires { at ≤ length s.now }
+    ensures { ReadsOp s.now at (deal_to q r) result }
 {
-    let f = ways(s, c, q, r);
-    let w = f.ways;
-    let d = Cursor {
-        ok: f.ok,
-        at: f.at,
-        value: 0,
-    };
-    deal_from(s, d, w)
+    let w = ways(s, at, q, r)?;
+    deal_from(s, w.at, w.value)
 }
 
+#[tactic(auto, using(base_lists::proofs::Build::build_length))]
 fn gather_of(v: u8, q: u8, w: HeldWays) -> Operator
     requires { FilledWays w }
     ensures { result ≡ memory (gather v q (queues_of w)) }
 {
     let ins = w.queues;
-    let outs = [q, 0, 0, 0];
-    let steps = [sheet_step::NO_STEP; PLACES];
     Operator {
         kind: Kind::Gather,
         count: w.count,
         variable: v,
         field: 0,
         ins,
-        outs,
-        steps,
+        outs: [q, 0, 0, 0],
+        steps: [sheet_step::NO_STEP; PLACES],
     }
 }
 
 // (q, $v) <- Gather(a, b, .., $v), from behind the first `$` on.
-pub fn gather(s: &[u8], c: Cursor, q: u8) -> Found
-    requires { c.at ≤ length s.now }
-    ensures { GoesTo s.now c (λ _. gather_to q) result }
+pub fn gather(s: &[u8], at: usize, q: u8) -> Result<Read<Operator>, Lost>
+    requires { at ≤ length s.now }
+    ensures { ReadsOp s.now at (gather_to q) result }
 {
-    let v = text_names::variable(s, c);
-    let variable = v.value as u8;
-    let c = text_scan::mark(s, v, b')');
-    let c = text_names::arrow(s, c);
-    let c = text_scan::mark(s, c, b'G');
-    let c = text_scan::spell(s, c, b"ather");
-    let c = text_scan::mark(s, c, b'(');
-    let a = text_names::queue(s, c);
-    let c = text_scan::mark(s, a, b',');
-    let b = text_names::queue(s, c);
-    let c = text_scan::mark(s, b, b',');
-    let f = ways(s, c, a.value as u8, b.value as u8);
-    let w = f.ways;
-    let d = Cursor {
-        ok: f.ok,
-        at: f.at,
-        value: 0,
-    };
-    let c = text_names::variable_is(s, d, variable);
-    let c = text_scan::mark(s, c, b')');
-    let op = gather_of(variable, q, w);
-    Found {
-        ok: c.ok,
+    let v = text_names::variable(s, at)?;
+    let c = text_scan::sign(s, v.at, b")")?;
+    let c = text_names::arrow(s, c.at)?;
+    let c = text_scan::sign(s, c.at, b"G")?;
+    let c = text_scan::spell(s, c.at, b"ather")?;
+    let c = text_scan::sign(s, c.at, b"(")?;
+    let a = text_names::queue(s, c.at)?;
+    let c = text_scan::sign(s, a.at, b",")?;
+    let b = text_names::queue(s, c.at)?;
+    let c = text_scan::sign(s, b.at, b",")?;
+    let w = ways(s, c.at, a.value, b.value)?;
+    let c = text_names::variable_is(s, w.at, v.value)?;
+    let c = text_scan::sign(s, c.at, b")")?;
+    Ok(Read {
+        value: gather_of(v.value, q, w.value),
         at: c.at,
-        op,
-    }
+    })
 }

@@ -3,7 +3,6 @@
 use mir.Syntax.{w32}
 use mathlib.Core.Path.{◌≡◌, ap, sym, ◌∙◌}
 use mathlib.Core.List.{◌++◌}
-use native.Mathlib.Omega.{arith}
 use borrow.Author.Rules.{rules}
 use lib.ListN.{get_or, take}
 use lib.IntN.{ℤ, pos}
@@ -14,11 +13,12 @@ use Rattle.bench_lines.proofs.Pieces.{piece_of, pieces_more}
 use Rattle.bench_lines.proofs.LineLaws.{chain_take}
 use Rattle.bench_lines.proofs.put_fields.Goals as goal
 
-pub loop-i-preserved : goal.loop-i-preserved
-loop-i-preserved c =
-    let l = c.loop-i in
+pub loop-z-preserved : goal.loop-z-preserved
+loop-z-preserved c =
+    let l = c.loop-z in
+    let k = l.z-index in
     let fs = c.args.fields.now in
-    let back : to_z w32 (of_z w32 (get_or fs l.i (pos 0))) ≡ get_or fs l.i (pos 0) = search rules in
-    let e = chain_take spaced fs (pos 0) l.i c.loop-i-test.true
-    ∙ ap (λ (z : ℤ). chain spaced (take l.i fs) ++ spaced z) (sym back) in
-    (omega (arith, c.loop-i-test.true), pieces_more SPACED l.i _ l.invariant.1 (piece_of c.put_spaced-end.ensures) e)
+    let back : to_z w32 (of_z w32 (get_or fs k (pos 0))) ≡ get_or fs k (pos 0) = search rules in
+    let e = chain_take spaced fs (pos 0) k c.loop-z-test.true
+    ∙ ap (λ (z : ℤ). chain spaced (take k fs) ++ spaced z) (sym back) in
+    pieces_more SPACED k _ l.invariant (piece_of c.put_spaced-end.ensures) e

@@ -1,6 +1,6 @@
--- `bench_lines::put_items` meets its contract: the lines of the first n - left items are put.
+-- `bench_lines::put_items` meets its contract: the lines of the first i items are put.
 -- Assumes nothing.
-use Prim.Native.Nat.{◌-◌, ◌≤◌, ℕ, ◌*◌}
+use Prim.Native.Nat.{ℕ, ◌*◌}
 use mathlib.Core.List.{List}
 use lib.IntN.{ℤ}
 use Rattle.run_store.specs.Queues.{items_of}
@@ -12,8 +12,5 @@ use Rattle.bench_lines.proofs.put_items.Given as goal
 abbrev pub Items : ℕ → ℕ → List ℤ → List ℕ → ℕ → List ℕ → ℕ → Type 0
 Items k q p s at t end = Piece (LINE * k) (queue_lines q (items_of k p)) s at t end
 
-abbrev pub invariant-loop-left : goal.invariant-loop-left
-invariant-loop-left l = (l.left ≤ l.n) × Items (l.n - l.left) l.q l.part l.initial.s l.at l.s l.end
-
-abbrev pub decreases-loop-left : goal.decreases-loop-left
-decreases-loop-left l = l.left
+abbrev pub invariant-loop-i : goal.invariant-loop-i
+invariant-loop-i l = Items l.i l.q l.part l.initial.s l.at l.s l.end

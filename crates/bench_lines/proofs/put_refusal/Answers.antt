@@ -9,42 +9,42 @@ use Rattle.bench_lines.proofs.put_refusal.Goals as goal
 pub put_natural-b-requires : goal.put_natural-b-requires
 put_natural-b-requires c =
     let p = piece 8 (omega arith) c.put_word-a.ensures in
-    omega (arith, length_natural 2 c.from.result (omega arith), c.requires)
+    omega (arith, length_natural 2 c.args.number (omega arith), c.requires)
 
 pub put_word-d-requires : goal.put_word-d-requires
 put_word-d-requires c =
     let p = piece 8 (omega arith) c.put_word-a.ensures in
-    let n = piece 3 (length_natural 2 c.from.result (omega arith)) c.put_natural-b.ensures in
+    let n = piece 3 (length_natural 2 c.args.number (omega arith)) c.put_natural-b.ensures in
     omega (arith, c.requires)
 
 pub put_natural-e-requires : goal.put_natural-e-requires
 put_natural-e-requires c =
     let p = piece 8 (omega arith) c.put_word-a.ensures in
-    let n = piece 3 (length_natural 2 c.from.result (omega arith)) c.put_natural-b.ensures in
+    let n = piece 3 (length_natural 2 c.args.number (omega arith)) c.put_natural-b.ensures in
     let o = piece 11 (omega arith) c.put_word-d.ensures in
-    omega (arith, length_natural 19 c.unwrap_or.result (omega arith), c.requires)
+    omega (arith, length_natural 19 c.args.spot (omega arith), c.requires)
 
 pub bounds-s-e : goal.bounds-s-e
 bounds-s-e c =
     let p = piece 8 (omega arith) c.put_word-a.ensures in
-    let n = piece 3 (length_natural 2 c.from.result (omega arith)) c.put_natural-b.ensures in
+    let n = piece 3 (length_natural 2 c.args.number (omega arith)) c.put_natural-b.ensures in
     let o = piece 11 (omega arith) c.put_word-d.ensures in
-    let m = piece 20 (length_natural 19 c.unwrap_or.result (omega arith)) c.put_natural-e.ensures in
+    let m = piece 20 (length_natural 19 c.args.spot (omega arith)) c.put_natural-e.ensures in
     omega (arith, c.requires)
 
 pub overflow_add-result : goal.overflow_add-result
 overflow_add-result c =
     let p = piece 8 (omega arith) c.put_word-a.ensures in
-    let n = piece 3 (length_natural 2 c.from.result (omega arith)) c.put_natural-b.ensures in
+    let n = piece 3 (length_natural 2 c.args.number (omega arith)) c.put_natural-b.ensures in
     let o = piece 11 (omega arith) c.put_word-d.ensures in
-    let m = piece 20 (length_natural 19 c.unwrap_or.result (omega arith)) c.put_natural-e.ensures in
+    let m = piece 20 (length_natural 19 c.args.spot (omega arith)) c.put_natural-e.ensures in
     omega (arith, c.requires)
 
 pub returns : goal.returns
 unfolding refusal_line
 returns c =
     let p = piece 8 (omega arith) c.put_word-a.ensures in
-    let n = piece 3 (length_natural 2 c.from.result (omega arith)) c.put_natural-b.ensures in
+    let n = piece 3 (length_natural 2 c.args.number (omega arith)) c.put_natural-b.ensures in
     let o = piece 11 (omega arith) c.put_word-d.ensures in
-    let m = piece 20 (length_natural 19 c.unwrap_or.result (omega arith)) c.put_natural-e.ensures in
-    rw (← c.from.ensures, ← c.unwrap_or.ensures) (whole 68 (omega arith) (then p (then n (then o (then m (byte 10 _ _))))))
+    let m = piece 20 (length_natural 19 c.args.spot (omega arith)) c.put_natural-e.ensures in
+    whole 68 (omega arith) (then p (then n (then o (then m (byte 10 _ _)))))

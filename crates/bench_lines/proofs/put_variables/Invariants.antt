@@ -1,6 +1,6 @@
 -- `bench_lines::put_variables` meets its contract: the first i variables are put.
 -- Assumes nothing.
-use Prim.Native.Nat.{◌*◌, ◌-◌, ◌≤◌}
+use Prim.Native.Nat.{◌*◌, ◌≤◌}
 use lib.ListN.{take}
 use Rattle.bench_lines.specs.Lines.{variable_lines, LINE}
 use Rattle.bench_lines.proofs.Pieces.{Piece}

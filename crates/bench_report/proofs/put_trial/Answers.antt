@@ -6,4 +6,4 @@ use Rattle.bench_report.proofs.put_trial.Goals as goal
 
 pub returns-in-Err : goal.returns-in-Err
 unfolding printed
-returns-in-Err c = rw c.in-Err.is (c.put_refusal.ensures.0, omega arith)
+returns-in-Err c = rw (c.in-Err.is, ← c.into.ensures, ← c.unwrap_or.ensures) (c.put_refusal.ensures.0, omega arith)

@@ -1,7 +1,7 @@
 -- `run_effect::run_line` meets its contract. The loop's invariant: the first i steps have been taken; the measure is what is left of them.
 -- Assumes nothing.
 use mathlib.Core.Path.{◌≡◌}
-use Prim.Native.Nat.{◌≤◌, ◌-◌}
+use Prim.Native.Nat.{◌≤◌}
 use Rattle.sheet_operator.specs.Memory.{steps_in}
 use Rattle.run_effect.specs.Flow.{lined}
 use Rattle.run_effect.proofs.run_line.Given as goal

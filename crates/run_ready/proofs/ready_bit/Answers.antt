@@ -1,4 +1,4 @@
--- `run_ready::ready_bit` meets its contract: an operator that was found is ready where trying it answers an effect.
+-- `run_ready::ready_bit` meets its contract: a reader is ready where trying it answers an effect.
 -- Assumes nothing.
 use native.Mathlib.Omega.{arith}
 use Rattle.sheet_operator.specs.Memory.{view}
@@ -9,4 +9,4 @@ use Rattle.run_ready.proofs.ready_bit.Goals as goal
 pub returns-in-Ok : goal.returns-in-Ok
 returns-in-Ok c =
     let a = c.args in
-    (bit_accepted a.found (view a.o) (decode a.state a.store.now) a.q c.if-not-found.false c.in-Ok.ensures.number, omega arith)
+    rw c.in-Some.is (bit_accepted (view c.in-Some.o) (decode a.state a.store.now) a.q c.in-Ok.ensures.number, omega arith)

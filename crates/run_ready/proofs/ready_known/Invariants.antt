@@ -10,6 +10,3 @@ use Rattle.run_ready.proofs.ready_known.Given as goal
 
 abbrev pub invariant-loop-q : goal.invariant-loop-q
 invariant-loop-q l = (l.q ≤ QUEUES) × (l.set ≡ bits_from (ready_at (view_sheet l.t) (decode l.state l.store)) l.q (SET - l.q))
-
-abbrev pub decreases-loop-q : goal.decreases-loop-q
-decreases-loop-q l = l.q

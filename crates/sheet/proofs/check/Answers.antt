@@ -3,16 +3,21 @@ use mathlib.Core.Path.{◌≡◌, refl, sym, ap, ◌∙◌}
 use mathlib.Core.Bool.{Bool, true, false, not, cond}
 use mathlib.Core.List.{[]}
 use Prim.Native.Nat.{ℕ, ◌+◌}
+use Rattle.std.specs.Prelude as rattle
+use Rattle.std.specs.Prelude.{Some, None, IsSome, unwrap_or, Err}
 use Rattle.std.proofs.lemmas.Result.{err_from_is_err_and}
-use Rattle.base_lists.proofs.Build.{build_length}
+use Rattle.base_lists.proofs.Build.{build_length, never}
+use Rattle.base_refusal.specs.declared.Reason.{Reason}
 use Rattle.base_refusal.specs.declared.Refusal.{Refusal}
+use Rattle.base_refusal.specs.Refusal.{number_of}
 use Rattle.sheet_operator.specs.Memory.{view}
 use Rattle.sheet_judge.specs.Judge.{Known, known, whole}
 use Rattle.sheet_format.specs.Head.{head_good}
 use Rattle.sheet.specs.declared.Sheet.{Sheet}
 use Rattle.sheet.specs.Answer.{accepted, refused_at, refused_for}
 use Rattle.sheet.specs.Sheet.{op_at, view_to, view_sheet}
-use Rattle.sheet.specs.Check.{Kept, kept, check_from, ending, vacant_from, check_end, check_of}
+use Rattle.sheet.specs.Check.{Kept, stopped, kept, check_from, ending, vacant_from, check_end, check_of}
+use Rattle.sheet.specs.Judges.{Judges}
 use Rattle.sheet.proofs.check.Goals as goal
 use Rattle.sheet.proofs.check.Goals.{After-all_defined, After-judge_operators}
 
@@ -28,9 +33,14 @@ good_head : (t : Sheet) (k : Kept) → head_test t ≡ true → check_from t t.c
 unfolding check_of
 good_head t k h e = rw (h, e)
 
-bad_operator : (t : Sheet) (e : Refusal) → head_test t ≡ true → check_end t (check_from t t.count (view_to t 0)) ≡ refused_for e.reason e.spot →
+-- a refusal that names its record
+told_at : (reason : Reason) (spot : rattle.Option ℕ) → IsSome spot → refused_at (number_of reason) (unwrap_or spot 0) ≡ refused_for reason spot
+told_at reason (Some k) h = refl
+told_at reason None h = never h
+
+bad_operator : (t : Sheet) (e : Refusal) → head_test t ≡ true → Judges t (Err e) →
     refused_for e.reason e.spot ≡ check_of t
-bad_operator t e h d = sym (good_head t (check_from t t.count (view_to t 0)) h refl ∙ d)
+bad_operator t e h d = sym (good_head t (stopped (number_of e.reason) (unwrap_or e.spot 0)) h d.0 ∙ told_at e.reason e.spot d.1)
 
 -- what stands at record N+1
 past_end : (t : Sheet) (v w : Bool) → vacant_from t ≡ v → whole t.queues (known (view_sheet t)) ≡ w →

@@ -1,6 +1,6 @@
 -- `sheet::judge_operators` meets its contract: what is left to check from here is what was to check at the start,
 -- and the flags are what is known of the operators before.
-use mathlib.Core.Path.{◌≡◌, sym, ap, ◌∙◌}
+use mathlib.Core.Path.{◌≡◌, refl, sym, ap, ◌∙◌}
 use mathlib.Core.Bool.{cond}
 use Prim.Native.Nat.{ℕ, ◌+◌, ◌-◌, ◌<◌}
 use native.Mathlib.Omega.{arith}
@@ -15,11 +15,10 @@ use Rattle.sheet_judge.specs.declared.Seen.{Seen}
 use Rattle.sheet_judge.proofs.KnownLaws.{known_with}
 use Rattle.sheet_format.proofs.Heads.{HeadRanges, ranges_of_good}
 use Rattle.sheet.specs.declared.Sheet.{Sheet}
-use Rattle.sheet.specs.Answer.{refused_at}
 use Rattle.sheet.specs.Sheet.{op_at, view_to}
-use Rattle.sheet.specs.Check.{number_in, check_from, check_end}
+use Rattle.sheet.specs.Check.{stopped, number_in, check_from}
 use Rattle.sheet.specs.Judges.{judged_number, Judged, Judges}
-use Rattle.sheet.proofs.AnswerLaws.{some_number}
+use Rattle.base_refusal.proofs.Reasons.{some_number}
 use Rattle.sheet.proofs.Turns.{view_more, check_next, check_stop, check_end_lem}
 use Rattle.sheet.proofs.judge_operators.Goals as goal
 use Rattle.sheet.proofs.judge_operators.Goals.{Start}
@@ -36,11 +35,10 @@ number_seen t i seen f =
 
 -- a refused operator, the next one, and the end
 stop : (t : Sheet) (i : ℕ) (seen : Seen) (reason : Reason) → i < t.count → Left t i → known_by seen ≡ known (view_to t i) →
-    Judged t seen (op_at t i) (Err reason) → check_end t (check_from t t.count (view_to t 0)) ≡ refused_at (number_of reason) (i + 1)
+    Judged t seen (op_at t i) (Err reason) → check_from t t.count (view_to t 0) ≡ stopped (number_of reason) (i + 1)
 stop t i seen reason h l f j =
     let e = j.number ∙ number_seen t i seen f in
-    ap (check_end t) (sym l ∙ check_stop t t.count i h (λ q. omega (arith, some_number reason)))
-    ∙ ap (λ (n : ℕ). refused_at n (i + 1)) (sym e)
+    sym l ∙ check_stop t t.count i h (λ q. omega (arith, some_number reason)) ∙ ap (λ (n : ℕ). stopped n (i + 1)) (sym e)
 
 left_next : (t : Sheet) (i : ℕ) (seen next : Seen) → i < t.count → Left t i → known_by seen ≡ known (view_to t i) →
     Judged t seen (op_at t i) (Ok next) → Left t (i + 1)
@@ -76,7 +74,7 @@ pub returns-in-Err : goal.returns-in-Err
 returns-in-Err c =
     let l = c.loop-i in
     let told : c.at.result ≡ refusal c.in-Err.reason (Some (l.i + 1)) = c.at.ensures in
-    rw told (stop c.args.t l.i l.seen c.in-Err.reason c.loop-i-test.true l.invariant.1 l.invariant.2 c.in-Err.ensures)
+    rw told (stop c.args.t l.i l.seen c.in-Err.reason c.loop-i-test.true l.invariant.1 l.invariant.2 c.in-Err.ensures, refl)
 
 pub loop-i-preserved : goal.loop-i-preserved
 loop-i-preserved c =

@@ -1,7 +1,7 @@
 -- `sheet::vacant_from` meets its contract: every place passed is one below N or vacant.
 use mathlib.Core.Path.{◌≡◌}
 use mathlib.Core.Bool.{true, ◌||◌}
-use Prim.Native.Nat.{ℕ, ◌-◌, ◌≤◌}
+use Prim.Native.Nat.{ℕ, ◌≤◌}
 use lib.Dec.{ltb}
 use Rattle.base_lists.specs.Lists.{build, all}
 use Rattle.sheet_operator.specs.Memory.{vacant}

@@ -23,7 +23,7 @@ loop-i-init c = (omega arith, refl)
 
 pub loop-i-preserved : goal.loop-i-preserved
 loop-i-preserved c =
-    (omega arith, more _ c.args.at c.loop-i.i _ _ (omega arith) c.loop-i.invariant.1 c.step_at-t.ensures)
+    (omega arith, more _ c.args.at c.loop-i.i _ _ (omega arith) c.loop-i.invariant.1 c.step_at.ensures)
 
 pub returns : goal.returns
 returns c =

@@ -1,7 +1,7 @@
 -- `sheet_operator::blanks_from` meets its contract. The loop's invariant: the places passed hold no step from n on.
 use mathlib.Core.Path.{◌≡◌}
 use mathlib.Core.Bool.{true, Bool, ◌||◌}
-use Prim.Native.Nat.{ℕ, ◌≤◌, ◌-◌}
+use Prim.Native.Nat.{ℕ, ◌≤◌}
 use Rattle.base_lists.specs.Lists.{build, all}
 use Rattle.sheet_operator.specs.Memory.{PLACES}
 use mathlib.Core.List.{List}

@@ -1,42 +1,23 @@
-use Prim.Native.Nat.{ℕ, ◌-◌}
-use mathlib.Core.Path.{refl, ap, ◌∙◌, sym}
-use borrow.Author.Rules.{rules}
-use Rattle.text_scan.specs.Reader.{bind, repeat}
-use Rattle.text_scan.specs.Cursor.{stands}
-use Rattle.text_grammar.specs.Readers.{name_turn}
-use Rattle.text_lists.specs.declared.KeptNames.{KeptNames}
-use Rattle.text_lists.specs.Names.{noted}
-use Rattle.text_lists.proofs.TurnLaws.{turn_last, turn_again, turn_less, lost_lists}
+use mathlib.Core.Path.{◌∙◌}
+use Rattle.std.proofs.lemmas.Result.{err_from_is_err_and}
+use Rattle.text_lists.proofs.TurnLaws.{turn_on, turn_less}
 use Rattle.text_lists.proofs.turns.Goals as goal
 
-pub loop-d-init : goal.loop-d-init
-loop-d-init c = (search rules, ap (λ (n : KeptNames). bind (stands c.args.s.now c.args.c) (λ (x : ℕ). repeat (name_turn noted) n)) c.no_names-names.ensures)
+pub returns-in_err-t : goal.returns-in_err-t
+returns-in_err-t c =
+    let r = err_from_is_err_and c.from_residual.result c.from_residual.ensures.1 in
+    let e = turn_on c.args.s.now c.loop-t.from c.loop-t.names c.in_err-t.ensures in
+    rw (r.1, r.2) (record { within = c.in_err-t.ensures.within; reads = e ∙ c.loop-t.invariant.rest })
 
-pub returns-then-t : goal.returns-then-t
-returns-then-t c =
-    let s = c.args.s.now in (
-      record {
-        within = c.turn-t.ensures.within;
-        reads = sym (turn_last s c.loop-d.d c.loop-d.names c.turn-t.result c.turn-t.ensures c.if-t.true) ∙ c.loop-d.invariant.1;
-      },
-      refl,
-    )
+pub loop-t-smaller : goal.loop-t-smaller
+loop-t-smaller c = turn_less c.args.s.now c.loop-t.from c.loop-t.names c.in_ok-t.ensures
 
-pub loop-d-smaller : goal.loop-d-smaller
-loop-d-smaller c =
-    turn_less c.args.s.now c.loop-d.d c.loop-d.names c.turn-t.result c.turn-t.ensures c.loop-d-test.true
+pub loop-t-preserved : goal.loop-t-preserved
+loop-t-preserved c =
+    let e = turn_on c.args.s.now c.loop-t.from c.loop-t.names c.in_ok-t.ensures in
+    record { within = c.in_ok-t.ensures.within; rest = (rw c.in-Again.is at e) ∙ c.loop-t.invariant.rest }
 
-pub loop-d-preserved : goal.loop-d-preserved
-loop-d-preserved c = (
-  c.turn-t.ensures.within,
-  sym (turn_again c.args.s.now c.loop-d.d c.loop-d.names c.turn-t.result c.turn-t.ensures c.if-t.false) ∙ c.loop-d.invariant.1,
-)
-
-pub returns : goal.returns
-returns c = (
-  record {
-    within = c.loop-d.invariant.0;
-    reads = lost_lists c.args.s.now c.loop-d.d c.loop-d.names c.loop-d-test.false ∙ c.loop-d.invariant.1;
-  },
-  refl,
-)
+pub returns-in-Last : goal.returns-in-Last
+returns-in-Last c =
+    let e = turn_on c.args.s.now c.loop-t.from c.loop-t.names c.in_ok-t.ensures in
+    record { within = c.in_ok-t.ensures.within; reads = (rw c.in-Last.is at e) ∙ c.loop-t.invariant.rest }

@@ -3,10 +3,10 @@
 use Rattle.text_places.proofs.Places.{walking_goes_on, walking_ends}
 use Rattle.text_places.proofs.locate.Goals as goal
 
-pub loop-i-preserved : goal.loop-i-preserved
-loop-i-preserved c =
-    let l = c.loop-i in
-    walking_goes_on l.invariant c.past-p.result c.loop-i-test.true c.past-p.ensures
+pub loop-b-preserved : goal.loop-b-preserved
+loop-b-preserved c =
+    let l = c.loop-b in
+    walking_goes_on l.invariant c.past-p.result c.loop-b-test.true c.past-p.ensures
 
 pub returns : goal.returns
-returns c = walking_ends c.loop-i.invariant c.loop-i-test.false
+returns c = walking_ends c.loop-b.invariant c.loop-b-test.false

@@ -5,5 +5,5 @@ use lib.ListN.{length}
 use Rattle.text_places.proofs.Places.{Walking}
 use Rattle.text_places.proofs.locate.Given as goal
 
-abbrev pub invariant-loop-i : goal.invariant-loop-i
-invariant-loop-i l = Walking l.s l.p l.i
+abbrev pub invariant-loop-b : goal.invariant-loop-b
+invariant-loop-b l = Walking l.s l.p l.b-index

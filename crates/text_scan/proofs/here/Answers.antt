@@ -1,25 +1,27 @@
--- `text_scan::here` meets its contract: a lost cursor stays, and the byte at the place is one of those or not.
+-- `text_scan::here` meets its contract: the byte at the place is one of those or not.
 -- Assumes nothing.
 use mathlib.Core.Path.{◌∙◌, sym}
 use native.Mathlib.Omega.{arith}
-use borrow.Author.Tests.{not-false}
-use Rattle.text_scan.proofs.Places.{here_end, here_not, here_is}
-use Rattle.text_scan.proofs.Going.{goes_on}
+use Rattle.text_scan.proofs.Places.{contains_member, here_end, here_not, here_is}
 use Rattle.text_scan.proofs.here.Goals as goal
+use Rattle.text_scan.proofs.here.Goals.{then-s-at-via-then-s-at, then-s-at-via-else-s-at+then-not-contains}
 
 pub returns-then-s-at : goal.returns-then-s-at
 returns-then-s-at c =
-    goes_on c.args.s.now c.args.c _ (not-false _ c.if-not-c.false) _ c.requires
-    (here_end c.args.s.now c.args.ms.now c.args.c.at c.if-s-at.true)
-
-pub returns-then-not-among : goal.returns-then-not-among
-returns-then-not-among c =
-    goes_on c.args.s.now c.args.c _ (not-false _ c.if-not-c.false) _ c.requires
-    (here_not c.args.s.now c.args.ms.now c.args.c.at c.if-s-at.false
-    (sym c.among.ensures ∙ c.if-not-among.true))
+    let a = c.args in
+    elim c.then-s-at.branch [
+      | then-s-at-via-then-s-at w ↦ record { within = c.requires; reads = here_end a.s.now a.ms.now a.at w.if-s-at.true }
+      | then-s-at-via-else-s-at+then-not-contains w ↦
+          record {
+            within = c.requires;
+            reads = here_not a.s.now a.ms.now a.at w.if-s-at.false (sym (contains_member _ a.ms.now) ∙ sym w.contains.ensures.value ∙ w.if-not-contains.true);
+          }
+    ]
 
 pub returns : goal.returns
 returns c =
-    goes_on c.args.s.now c.args.c _ (not-false _ c.if-not-c.false) _ (omega (arith, c.if-s-at.false))
-    (here_is c.args.s.now c.args.ms.now c.args.c.at c.if-s-at.false
-    (sym c.among.ensures ∙ c.if-not-among.false))
+    let a = c.args in
+    record {
+      within = omega (arith, c.if-s-at.false);
+      reads = here_is a.s.now a.ms.now a.at c.if-s-at.false (sym (contains_member _ a.ms.now) ∙ sym c.contains.ensures.value ∙ c.if-not-contains.false);
+    }

@@ -1,14 +1,14 @@
--- `text_scan::sign` meets its contract: `here`, from the first byte on that is no blank.
+-- `text_scan::sign` meets its contract: blanks are passed, and then one byte is read.
 -- Assumes nothing.
-use mathlib.Core.Path.{ap, ◌∙◌, sym}
-use borrow.Author.Tests.{not-false}
+use mathlib.Core.Path.{◌∙◌, sym, ap}
 use Rattle.text_scan.specs.Reader.{here}
 use Rattle.text_scan.proofs.Places.{sign_after}
-use Rattle.text_scan.proofs.Going.{goes_on}
 use Rattle.text_scan.proofs.sign.Goals as goal
 
 pub returns : goal.returns
 returns c =
-    let h = c.here.ensures in
-    goes_on c.args.s.now c.args.c _ (not-false _ c.if-not-c.false) _ h.within
-    (h.reads ∙ ap (here c.args.ms.now) c.skip-at.ensures.1 ∙ sym (sign_after c.args.ms.now _))
+    let a = c.args in
+    record {
+      within = c.here.ensures.within;
+      reads = c.here.ensures.reads ∙ ap (here a.ms.now) c.skip.ensures.1 ∙ sym (sign_after a.ms.now _);
+    }

@@ -1,23 +1,47 @@
 -- `text_scan::spell` meets its contract. The loop's invariant: what is left of the word gives, from here, what the word gives.
 -- Assumes nothing.
-use mathlib.Core.Path.{◌∙◌}
-use native.Mathlib.Omega.{arith}
-use Rattle.text_scan.proofs.Going.{spell_goes, spell_ends}
+use mathlib.Core.Path.{◌≡◌, ◌∙◌, sym, ap}
+use mathlib.Core.List.{List, [], ◌∷◌}
+use borrow.Author.Rules.{rules}
+use Prim.Native.Nat.{ℕ, ◌+◌, ◌<◌}
+use lib.ListN.{length, drop, get_or}
+use Rattle.std.specs.Prelude.{Err}
+use Rattle.text_scan.specs.Reader.{Res, bind, here, spell}
+use Rattle.text_scan.proofs.Places.{one_more, no_more}
 use Rattle.text_scan.proofs.spell.Goals as goal
 
-pub loop-i-preserved : goal.loop-i-preserved
-loop-i-preserved c =
+-- the word from its byte i on: that byte, and the rest of the word
+from : (w t : List ℕ) (i : ℕ) → i < length w → bind (here (get_or w i 0 ∷ []) t) (λ (b : ℕ). spell (drop (i + 1) w)) ≡ spell (drop i w) t
+unfolding spell
+from w t i h = sym (ap (λ (l : List ℕ). spell l t) (one_more w i h))
+
+pub returns-in_err-end : goal.returns-in_err-end
+returns-in_err-end c =
     let a = c.args in
-    let g = c.letter-d.ensures in (
-      omega arith,
+    let l = c.loop-b in
+    let g = c.in_err-end.ensures in
+    let e : c.from_residual.result ≡ Err c.in_err-end.field-0.0 = search rules in
+    rw e (record {
+      within = g.within;
+      reads = ap (λ (x : Res ℕ). bind x (λ (b : ℕ). spell (drop (l.b-index + 1) a.w.now))) g.reads
+          ∙ from a.w.now (drop l.end a.s.now) l.b-index c.loop-b-test.true ∙ l.invariant.1;
+    })
+
+pub loop-b-preserved : goal.loop-b-preserved
+loop-b-preserved c =
+    let a = c.args in
+    let l = c.loop-b in
+    let g = c.in_ok-end.ensures in (
       g.within,
-      spell_goes a.s.now a.w.now c.loop-i.i c.loop-i.d c.letter-d.result c.loop-i-test.true g ∙ c.loop-i.invariant.2,
+      ap (λ (x : Res ℕ). bind x (λ (b : ℕ). spell (drop (l.b-index + 1) a.w.now))) g.reads
+          ∙ from a.w.now (drop l.end a.s.now) l.b-index c.loop-b-test.true ∙ l.invariant.1,
     )
 
 pub returns : goal.returns
+unfolding spell
 returns c =
-    let a = c.args in
+    let l = c.loop-b in
     record {
-      within = c.loop-i.invariant.1;
-      reads = spell_ends a.s.now a.w.now c.loop-i.i c.loop-i.d c.loop-i-test.false ∙ c.loop-i.invariant.2;
+      within = l.invariant.0;
+      reads = ap (λ (w : List ℕ). spell w (drop l.end c.args.s.now)) (sym (no_more c.args.w.now l.b-index c.loop-b-test.false)) ∙ l.invariant.1;
     }

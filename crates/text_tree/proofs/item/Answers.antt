@@ -1,10 +1,11 @@
-use Rattle.text_tree.proofs.ToEnd.{item_goes}
+-- `text_tree::item` meets its contract: an operator in memory, and then its semicolon.
+-- Assumes nothing.
+use borrow.Author.Rules.{rules}
+use Rattle.text_tree.proofs.ToEnd.{item_then}
 use Rattle.text_tree.proofs.item.Goals as goal
 
+pub returns-in_err-mark : goal.returns-in_err-mark
+returns-in_err-mark c = item_then c.in_ok-op.ensures (search rules)
+
 pub returns : goal.returns
-returns c =
-    let a = c.args in
-    record {
-      within = c.mark-m.ensures.within;
-      reads = item_goes a.s.now a.c c.operator-f.result c.mark-m.result c.operator-f.ensures c.mark-m.ensures;
-    }
+returns c = item_then c.in_ok-op.ensures (search rules)

@@ -1,15 +1,14 @@
 -- `text_tree::operators` meets its contract. The loop's invariant: what is read from here on with what is kept is what is read from the beginning.
 -- Assumes nothing.
-use Prim.Native.Nat.{suc, ◌-◌, ◌≤◌}
+use Prim.Native.Nat.{◌-◌, ◌≤◌}
 use mathlib.Core.Path.{◌≡◌}
-use mathlib.Core.Bool.{cond}
 use lib.ListN.{length}
 use Rattle.text_tree.specs.Tree.{none}
 use Rattle.text_tree.proofs.ToEnd.{to_end_of}
 use Rattle.text_tree.proofs.operators.Given as goal
 
-abbrev pub invariant-loop-d : goal.invariant-loop-d
-invariant-loop-d l = (l.d.at ≤ length l.s) × (to_end_of l.s l.d l.held ≡ to_end_of l.s l.initial.d none)
+abbrev pub invariant-loop-held : goal.invariant-loop-held
+invariant-loop-held l = (l.from ≤ length l.s) × (to_end_of l.s l.from l.held ≡ to_end_of l.s l.at none)
 
-abbrev pub decreases-loop-d : goal.decreases-loop-d
-decreases-loop-d l = cond l.d.ok (suc (length l.s - l.d.at)) 0
+abbrev pub decreases-loop-held : goal.decreases-loop-held
+decreases-loop-held l = length l.s - l.from

@@ -1,0 +1,7 @@
+-- `replay_printer::Printer::hex_into` is safe: two digits a byte fit behind what waits.
+use Rattle.std.proofs.Common.{◌≡◌, ◌+◌, ◌*◌, length}
+use Rattle.replay_printer.proofs.Printer.hex_into.Given as goal
+
+abbrev pub invariant-loop-b : goal.invariant-loop-b
+invariant-loop-b l =
+    (l.at ≡ l.initial.self.used + 2 * l.b-index) × (length l.self.out.now ≡ length l.initial.self.out.now) × (l.self.used ≡ l.initial.self.used)

@@ -1,9 +1,0 @@
--- `replay_show::show_store` is safe and ends; what waits stays within the buffer.
--- Assumes nothing.
-use Prim.Native.Nat.{◌≤◌, ◌<◌, ◌-◌}
-use lib.ListN.{length}
-use mathlib.Core.Path.{◌≡◌}
-use Rattle.replay_show.proofs.show_store.Given as goal
-
-abbrev pub invariant-loop-i : goal.invariant-loop-i
-invariant-loop-i l = (l.i ≤ length l.store) × (l.at < length l.out) × (length l.out ≡ length l.initial.out)
