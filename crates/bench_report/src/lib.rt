@@ -45,7 +45,7 @@ fn put_outputs(s: &mut [u8], at: usize, t: Sheet, state: State, store: &[i32]) -
     let n = t.queues;
     let mut end = at;
     for q in 0..n {
-        let i = run_reader::reader_at(rs, q);
+        let i = run_reader::reader_at(&rs, q);
         let j = q as usize;
         let k = counts[j];
         end = put_output(s, end, i == sheet::OPERATORS, q, k, store);

@@ -109,7 +109,21 @@ front_keeps s a rest below e =
 stopped_apart : (m p n q : ℕ) → stopped m p ≡ stopped n q → (m ≡ n) × (p ≡ q)
 stopped_apart m p n q e = (cc, cc)
 
--- the number and record of a refusal of the front are small
+-- no refusal of the front is 0
+pub front_stops : (s : List ℕ) (number spot : ℕ) → front_of s ≡ stopped number spot → number ≡ 0 → ⊥
+front_stops s number spot e o =
+    ⊎_elim
+    (λ (z : head_number s ≡ 0).
+    let g : read_from (get_or s 7 0) (head_in s) (drop HEAD_BYTES s) ≡ stopped number spot = front_read s z ∙ e in
+    ⊎_elim
+    (λ (h : Holds (get_or s 7 0) (head_in s) (drop HEAD_BYTES s)). let f = sym h.reads ∙ g in let y : ◌≡◌ {A = ℕ} 0 1 = cc in omega arith)
+    (λ (h : Halts (get_or s 7 0) (head_in s) (drop HEAD_BYTES s)).
+    omega (arith, h.least, (stopped_apart h.number h.spot number spot (sym h.reads ∙ g)).0))
+    (read_cases (get_or s 7 0) (head_in s) (drop HEAD_BYTES s)))
+    (λ (ne : head_number s ≡ 0 → ⊥). ne ((stopped_apart (head_number s) 0 number spot (sym (front_bad s (head_number s) refl ne) ∙ e)).0 ∙ o))
+    (same_or (head_number s) 0)
+
+-- its number and record are small
 pub front_small : (s : List ℕ) (number spot : ℕ) → front_of s ≡ stopped number spot → (number ≤ 7) × (spot ≤ OPERATORS)
 front_small s number spot e =
     ⊎_elim

@@ -27,9 +27,9 @@ use Rattle.run_machine.proofs.Sound.{Sound, sound_of_accepted}
 use Rattle.bench_records.specs.Records.{kind_at, queue_at, item_at, feed_body, feed_bytes, firing_kind, firing_body, firing_bytes, is_feed, feed_next, firing_number}
 use Rattle.bench_records.specs.Records.{start, Feeds, unfed, fed, feeds_from, Firings, unfired, firings, before, firings_from}
 use Rattle.bench_records.proofs.Listing.{firings_end, firings_stop, firings_next}
-use Rattle.bench_records.proofs.Feeding.{whole_body, item_wide, feeds_over, feeds_by}
+use Rattle.bench_records.proofs.Feeding.{some_number, whole_body, item_wide, feeds_over, feeds_by}
 use Rattle.bench_trial.specs.Trial.{Trial, refusal, ended, fired_trial, fed_trial, kept_trial, trial_of}
-use Rattle.bench_trial.proofs.Front.{front_keeps, front_small, input_long, input_front}
+use Rattle.bench_trial.proofs.Front.{front_keeps, front_stops, front_small, input_long, input_front}
 use Rattle.bench_trial.proofs.Narrow.{NarrowM, item_narrow, feed_narrow, run_narrow, start_narrow}
 use Rattle.sheet_format.proofs.Fronts.{drop_below}
 
@@ -43,7 +43,7 @@ Below s = (k : ℕ) → get_or s k 0 < 256
 -- ---- firings
 
 abbrev FiringsIn : ℕ → ℕ → Firings → Type 0
-FiringsIn n b (unfired r k) = (r ≤ 2) × (k ≤ b)
+FiringsIn n b (unfired r k) = (1 ≤ r) × (r ≤ 2) × (k ≤ b)
 FiringsIn n b (firings qs) = length qs ≤ n
 
 number_tests : (x y z : Bool) → cond {A = ℕ} x 1 (cond y (cond z 0 1) 2) ≤ 2
@@ -78,14 +78,14 @@ firings_in (suc n) k b s l =
     subst (FiringsIn (suc n) b) (sym (firings_next n k s ne z))
     (before_in n b (queue_at s) (firings_from n (k + 1) (drop firing_bytes s))
     (firings_in n (k + 1) b (drop firing_bytes s) (omega arith))))
-    (λ (nz : firing_number s ≡ 0 → ⊥). subst (FiringsIn (suc n) b) (sym (firings_stop n k s ne nz)) (number_small s, omega arith))
+    (λ (nz : firing_number s ≡ 0 → ⊥). subst (FiringsIn (suc n) b) (sym (firings_stop n k s ne nz)) (omega arith, number_small s, omega arith))
     (same_or (firing_number s) 0))
     (same_or (length s) 0)
 
 -- ---- feeds
 
 abbrev FeedsIn : Abstract → ℕ → ℕ → Feeds → Type 0
-FeedsIn a size b (unfed r k) = (r ≤ 12) × (k ≤ b)
+FeedsIn a size b (unfed r k) = (1 ≤ r) × (r ≤ 12) × (k ≤ b)
 FeedsIn a size b (fed m k rest) = GoodM a m × NarrowM m × (k ≤ b) × (length rest ≤ size)
 
 feed_tests : (x y z : Bool) (m : Machine) (k : ℕ) → cond x (cond y (cond z (refuse 12) (done m)) (refuse 9)) (refuse 1) ≡ refuse k → k ≤ 12
@@ -109,7 +109,7 @@ module _ (a : Abstract) (sound : Sound a) (size b : ℕ) where
       FeedsIn a size b (feeds_from (suc n) a m k s)
   feeds_step n k m s l h g w (refuse r) e d more =
       subst (FeedsIn a size b) (sym (feeds_by n k a m s (refuse r) e d))
-      (feed_number_lem a m s r d, omega arith)
+      (let z = some_number a m s r d in omega arith, feed_number_lem a m s r d, omega arith)
   feeds_step n k m s l h g w (done m') e d more =
       let p = whole_body a m m' s d in
       subst (FeedsIn a size b) (sym (feeds_by n k a m s (done m') e d))
@@ -133,7 +133,7 @@ module _ (a : Abstract) (sound : Sound a) (size b : ℕ) where
 
 -- ---- the whole input
 
--- a refusal has small numbers; else a good machine of 32-bit numbers on an accepted sheet, with small counts
+-- a refusal has small numbers, and its own is not 0; else a good machine of 32-bit numbers on an accepted sheet, with small counts
 pub record Ended (f : Trial) : Type 0 where
   pub sheet : Abstract
   pub accepted : check_of (memory_sheet sheet) ≡ accepted
@@ -148,17 +148,18 @@ pub record Ended (f : Trial) : Type 0 where
 pub record Refused (f : Trial) : Type 0 where
   pub number : ℕ
   pub spot : ℕ
+  pub some : 1 ≤ number
   pub small : number ≤ 18
   pub early : spot ≤ INPUT_BYTES + INPUT_BYTES + AFTER
   pub same : f ≡ refusal number spot
 
-refusal_in_lem : (r k : ℕ) → r ≤ 18 → k ≤ INPUT_BYTES + INPUT_BYTES + AFTER → Refused (refusal r k)
-refusal_in_lem r k a b = record { number = r; spot = k; small = a; early = b; same = refl }
+refusal_in_lem : (r k : ℕ) → 1 ≤ r → r ≤ 18 → k ≤ INPUT_BYTES + INPUT_BYTES + AFTER → Refused (refusal r k)
+refusal_in_lem r k i a b = record { number = r; spot = k; some = i; small = a; early = b; same = refl }
 
 module _ (a : Abstract) (ok : check_of (memory_sheet a) ≡ accepted) (view : view_sheet (memory_sheet a) ≡ a) (sound : Sound a) where
   fired_in_lem : (m : Machine) (f : Firings) → GoodM a m → NarrowM m → FiringsIn INPUT_BYTES (INPUT_BYTES + INPUT_BYTES + AFTER) f →
       Ended (fired_trial a m f) ⊎ Refused (fired_trial a m f)
-  fired_in_lem m (unfired r k) g w h = inr (refusal_in_lem r k (omega (arith, h.0)) h.1)
+  fired_in_lem m (unfired r k) g w h = inr (refusal_in_lem r k h.0 (omega (arith, h.1)) h.2)
   fired_in_lem m (firings qs) g w h =
       inl
       (record {
@@ -174,7 +175,7 @@ module _ (a : Abstract) (ok : check_of (memory_sheet a) ≡ accepted) (view : vi
       })
 
   fed_in : (f : Feeds) → FeedsIn a INPUT_BYTES (INPUT_BYTES + AFTER) f → Ended (fed_trial a f) ⊎ Refused (fed_trial a f)
-  fed_in (unfed r k) h = inr (refusal_in_lem r k (omega (arith, h.0)) (omega (arith, h.1)))
+  fed_in (unfed r k) h = inr (refusal_in_lem r k h.0 (omega (arith, h.1)) (omega (arith, h.2)))
   fed_in (fed m k rest) h =
       fired_in_lem m (firings_from (length rest) k rest) h.0 h.1
       (firings_more (length rest) INPUT_BYTES (INPUT_BYTES + INPUT_BYTES + AFTER) h.3 (firings_from (length rest) k rest)
@@ -185,11 +186,12 @@ module _ (a : Abstract) (ok : check_of (memory_sheet a) ≡ accepted) (view : vi
 gap_or_fed : (w : Bool) (a : Abstract) (f : Feeds) (k : ℕ) → k ≤ AFTER → (w ≡ true → Ended (fed_trial a f) ⊎ Refused (fed_trial a f)) →
     Ended (cond w (fed_trial a f) (refusal 5 k)) ⊎ Refused (cond w (fed_trial a f) (refusal 5 k))
 gap_or_fed true a f k l h = h refl
-gap_or_fed false a f k l h = inr (refusal_in_lem 5 k (omega arith) (omega arith))
+gap_or_fed false a f k l h = inr (refusal_in_lem 5 k (omega arith) (omega arith) (omega arith))
 
 module _ (s : List ℕ) (below : (k : ℕ) → get_or s k 0 < 256) (l : length s ≤ INPUT_BYTES) where
   kept_in : (k : Kept) → front_of s ≡ k → Ended (kept_trial k) ⊎ Refused (kept_trial k)
-  kept_in (stopped r k) e = let p = front_small s r k e in inr (refusal_in_lem r k (omega (arith, p.0)) (omega (arith, p.1)))
+  kept_in (stopped r k) e = let p = front_small s r k e in let z = front_stops s r k e in
+      inr (refusal_in_lem r k (omega arith) (omega (arith, p.0)) (omega (arith, p.1)))
   kept_in (kept a rest) e =
       let g = front_keeps s a rest below e in
       let few = g.few in
@@ -208,7 +210,7 @@ pub trial_within : (s : List ℕ) → ((k : ℕ) → get_or s k 0 < 256) → End
 trial_within s below =
     ⊎_elim
     (λ (l : INPUT_BYTES < length s). subst (λ (f : Trial). Ended f ⊎ Refused f) (sym (input_long s l))
-    (inr (refusal_in_lem 18 0 (omega arith) (omega arith))))
+    (inr (refusal_in_lem 18 0 (omega arith) (omega arith) (omega arith))))
     (λ (l : length s ≤ INPUT_BYTES). subst (λ (f : Trial). Ended f ⊎ Refused f) (sym (input_front s (front_of s) l refl))
     (kept_in s below l (front_of s) refl))
     (order INPUT_BYTES (length s))

@@ -10,6 +10,8 @@ use sheet::Sheet;
 pub fn again(t: Sheet, buffer: &mut [u8]) -> Result<Sheet, Refusal>
     ensures { Agains t buffer.old buffer.new result }
 {
-    let n = codec_write::write(t, buffer)?;
-    codec_read::read(&buffer[..n])
+    match codec_write::write(t, buffer) {
+        Ok(n) => codec_read::read(&buffer[..n]),
+        Err(e) => Err(e),
+    }
 }

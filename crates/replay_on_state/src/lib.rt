@@ -1,13 +1,13 @@
 // The calls on a state, 9 to 12, made and printed as those on a sheet.
 #![tactic(auto)]
 
-ghost use Rattle.std.specs.Prelude.{◌+◌, ◌*◌, ◌≡◌, length};
+ghost use Rattle.std.specs.Prelude.{◌+◌, ◌*◌, ◌≡◌, length, MatchResult};
 ghost use Rattle.std.specs.Result.{result_unwrap_or};
 ghost use Rattle.base_bounds.specs.Bounds.{FIELDS};
 
 use base_refusal::Refusal;
 use replay_printer::Printer;
-use run_machine::State;
+use run_machine::{State, TakenItem};
 use run_store::Item;
 use sheet::Sheet;
 
@@ -64,6 +64,23 @@ pub fn call_feed(
     done_state(answer, state, out)
 }
 
+// A take's answer is printed, and the state is the one that it left, else the one before.
+fn taken_state(answer: Result<TakenItem, Refusal>, before: State, out: &mut Printer<'_>) -> State
+    ensures { MatchResult answer (λ taken. result ≡ taken.state) (λ _. result ≡ before) }
+{
+    match answer {
+        Ok(taken) => {
+            out.text(b"item");
+            out.item(taken.item);
+            taken.state
+        }
+        Err(e) => {
+            out.refusal(e);
+            before
+        }
+    }
+}
+
 // 11
 pub fn call_take(
     body: &[u8],
@@ -76,17 +93,8 @@ pub fn call_take(
         out.bad();
         return state;
     }
-    match runner::take(t, state, &mut *store, body[0]) {
-        Ok(taken) => {
-            out.text(b"item");
-            out.item(taken.item);
-            taken.state
-        }
-        Err(e) => {
-            out.refusal(e);
-            state
-        }
-    }
+    let answer = runner::take(t, state, &mut *store, body[0]);
+    taken_state(answer, state, out)
 }
 
 // 12

@@ -1,7 +1,7 @@
 // Text for standard output. It waits in a lent buffer, and is written when that is full.
 #![tactic(auto)]
 
-ghost use Rattle.std.specs.Prelude.{◌*◌, ◌+◌, ◌<◌, length};
+ghost use Rattle.std.specs.Prelude.{◌≡◌, ◌*◌, ◌+◌, ◌<◌, length};
 
 use base_refusal::Refusal;
 use run_store::Item;
@@ -16,22 +16,17 @@ pub struct Printer<'a> {
 }
 
 impl<'a> Printer<'a> {
+    // Nothing waits in a new one.
     pub fn new(out: &'a mut [u8]) -> Printer<'a>
         requires { 0 < length out.old }
+        ensures { result.used ≡ 0 }
     {
         Printer { out, used: 0 }
     }
 
     // Puts one byte behind those that wait.
     pub fn byte(&mut self, b: u8) {
-        self.out[self.used] = b;
-        let next = self.used + 1;
-        if next < self.out.len() {
-            self.used = next;
-            return;
-        }
-        io::write_all(STANDARD_OUTPUT, &*self.out);
-        self.used = 0;
+        self.used = put(&mut *self.out, self.used, b);
     }
 
     // Writes what waits; a printer ends here.
@@ -41,9 +36,12 @@ impl<'a> Printer<'a> {
     }
 
     pub fn text(&mut self, s: &[u8]) {
+        let out = &mut *self.out;
+        let mut at = self.used;
         for b in s {
-            self.byte(*b);
+            at = put(&mut *out, at, *b);
         }
+        self.used = at;
     }
 
     // The first n bytes of a text that has them.
@@ -103,21 +101,27 @@ impl<'a> Printer<'a> {
     fn hex_into(&mut self, s: &[u8])
         requires { self.old.used + 2 * length s.now < length self.old.out.now }
     {
+        let out = &mut *self.out;
         let mut at = self.used;
         for b in s {
-            self.out[at] = glyph(b / 16);
-            self.out[at + 1] = glyph(b % 16);
+            let b = *b;
+            out[at] = glyph(b / 16);
+            out[at + 1] = glyph(b % 16);
             at += 2;
         }
         self.used = at;
     }
 
-    // Through `byte`, which writes the buffer whenever it is full.
+    // Through `put`, which writes the buffer whenever it is full.
     fn hex_by_byte(&mut self, s: &[u8]) {
+        let out = &mut *self.out;
+        let mut at = self.used;
         for b in s {
-            self.byte(glyph(b / 16));
-            self.byte(glyph(b % 16));
+            let b = *b;
+            at = put(&mut *out, at, glyph(b / 16));
+            at = put(&mut *out, at, glyph(b % 16));
         }
+        self.used = at;
     }
 
     // A refusal's line, with the record where it names one.
@@ -160,6 +164,21 @@ impl<'a> Printer<'a> {
             self.bad();
         }
     }
+}
+
+// Puts one byte behind the first `used`, and writes the buffer when it is full; how many wait then. A loop keeps
+// buffer and count in places of its own, and not behind a printer, so that neither is loaded again for each byte.
+fn put(out: &mut [u8], used: usize, b: u8) -> usize
+    requires { used < length out.old }
+    ensures { result < length out.new }
+{
+    out[used] = b;
+    let next = used + 1;
+    if next < out.len() {
+        return next;
+    }
+    io::write_all(STANDARD_OUTPUT, &*out);
+    0
 }
 
 fn glyph(d: u8) -> u8

@@ -2,10 +2,30 @@
 // and which call each number is of those that may change the state.
 #![tactic(auto)]
 
+ghost use Rattle.std.specs.Prelude.{◌≡◌, MatchResult};
+ghost use Rattle.std.specs.Option.{unwrap_or};
+
+use base_refusal::Refusal;
 use replay_held::Holding;
 use replay_printer::Printer;
 use run_machine::{ReadySet, RunEnd, State};
 use sheet::Sheet;
+
+// A run's answer is printed, and the state is the one that it left, else the one before.
+fn ran_state(answer: Result<RunEnd, Refusal>, before: State, out: &mut Printer<'_>) -> State
+    ensures { MatchResult answer (λ ran. result ≡ ran.state) (λ _. result ≡ before) }
+{
+    match answer {
+        Ok(ran) => {
+            put_ran(ran, out);
+            ran.state
+        }
+        Err(e) => {
+            out.refusal(e);
+            before
+        }
+    }
+}
 
 // 13
 fn call_run(
@@ -15,16 +35,8 @@ fn call_run(
     store: &mut [i32],
     out: &mut Printer<'_>,
 ) -> State {
-    match runner::run(t, state, &mut *store, body) {
-        Ok(n) => {
-            put_ran(n, out);
-            n.state
-        }
-        Err(e) => {
-            out.refusal(e);
-            state
-        }
-    }
+    let answer = runner::run(t, state, &mut *store, body);
+    ran_state(answer, state, out)
 }
 
 fn put_ran(n: RunEnd, out: &mut Printer<'_>) {
@@ -53,7 +65,9 @@ fn put_ready(r: ReadySet, out: &mut Printer<'_>) {
 }
 
 // The state with one number of it set, or as it was where the body is bad.
-fn set_state(changed: Option<State>, before: State, out: &mut Printer<'_>) -> State {
+fn set_state(changed: Option<State>, before: State, out: &mut Printer<'_>) -> State
+    ensures { result ≡ unwrap_or changed before }
+{
     out.done(changed.is_some());
     changed.unwrap_or(before)
 }

@@ -22,7 +22,7 @@ pub fn fire_known(t: Sheet, q: u8, state: State, store: &mut [i32]) -> Result<St
     ensures { Answers (fire_known t state store.old q) state result store.new }
 {
     let rs = run_reader::readers(t);
-    let i = run_reader::reader_at(rs, q);
+    let i = run_reader::reader_at(&rs, q);
     let reader = t.operators.get(i).copied();
     let mut counts = state.counts;
     let mut vars = state.vars;
@@ -58,7 +58,7 @@ fn is_output(t: Sheet, q: u8) -> bool
     requires { check_of t ≡ accepted }
     ensures { result ≡ is_output (view_sheet t) q }
 {
-    q < t.queues && run_reader::reader_at(run_reader::readers(t), q) == sheet::OPERATORS
+    q < t.queues && run_reader::reader_at(&run_reader::readers(t), q) == sheet::OPERATORS
 }
 
 // Takes the oldest item of an output.
@@ -105,7 +105,7 @@ pub fn run_known(t: Sheet, state: State, store: &mut [i32], list: &[u8]) -> RunE
     let mut skipped: usize = 0;
     for k in 0..list.len() {
         let q = list[k];
-        let i = run_reader::reader_at(rs, q);
+        let i = run_reader::reader_at(&rs, q);
         let reader = t.operators.get(i).copied();
         let a = run_machine::fire_reader(reader, q, &mut counts, &mut vars, &mut *store);
         let n = one_if_done(a);

@@ -134,7 +134,9 @@ pub fn try_operator(o: Operator, q: u8, state: State, store: &[i32]) -> Result<E
     Ok(e)
 }
 
-// Fires an operator from queue q. Counts and variables are lent, so that a firing copies none of them back.
+// Fires an operator from queue q. Counts and variables are lent, so that a firing copies none of them back. It is
+// inlined, and so is what calls it: most queues of a run are empty, and a call would copy the operator and a refusal.
+#[inline(always)]
 fn fire_operator(
     o: Operator,
     q: u8,
@@ -166,6 +168,7 @@ fn fire_operator(
 }
 
 // Fires a queue's reader, 9 where it has none.
+#[inline(always)]
 pub fn fire_reader(
     reader: Option<Operator>,
     q: u8,

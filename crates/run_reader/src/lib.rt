@@ -44,8 +44,8 @@ pub fn readers(t: Sheet) -> [u8; run_machine::QUEUES]
 }
 
 // The place of the operator that reads q; OPERATORS where none does, also where q is no queue.
-pub fn reader_at(readers: [u8; run_machine::QUEUES], q: u8) -> usize
-    ensures { result ≡ get_or readers q OPERATORS }
+pub fn reader_at(readers: &[u8; run_machine::QUEUES], q: u8) -> usize
+    ensures { result ≡ get_or readers.now q OPERATORS }
 {
     match readers.get(q as usize) {
         Some(i) => *i as usize,

@@ -34,7 +34,7 @@ pub fn ready_known(t: Sheet, state: State, store: &[i32]) -> u32
     let rs = run_reader::readers(t);
     let mut set: u32 = 0;
     for q in (0..base_bounds::QUEUES).rev() {
-        let i = run_reader::reader_at(rs, q);
+        let i = run_reader::reader_at(&rs, q);
         let reader = t.operators.get(i).copied();
         let b = ready_bit(reader, q, state, store);
         set = 2 * set + b;

@@ -76,7 +76,7 @@ pub fn reader_of(t: Sheet, q: u8) -> Result<usize, Refusal>
 {
     sheet::check(t)?;
     let readers = run_reader::readers(t);
-    let place = run_reader::reader_at(readers, q);
+    let place = run_reader::reader_at(&readers, q);
     if sheet::OPERATORS <= place {
         return Err(Reason::WrongQueue.into());
     }

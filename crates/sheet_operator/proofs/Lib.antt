@@ -1,3 +1,4 @@
 pub mod ViewLaws
 pub mod Held
 pub mod InTurn
+pub mod Vacant

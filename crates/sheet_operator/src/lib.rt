@@ -155,10 +155,17 @@ pub fn check_places(o: Operator) -> Result<(), Reason>
     Ok(())
 }
 
-// The place from N on holds the empty operator.
-#[tactic(auto, unfolding(crate::specs::Memory::vacant))]
+// The place from N on holds the empty operator. Each place is tested itself, and not through `is_tidy`, whose bounds
+// come from the kind.
+#[tactic(auto, using(crate::proofs::Vacant::vacant_by_places))]
 pub fn is_vacant(o: Operator) -> bool
     ensures { result ≡ vacant o }
 {
-    is_empty(o.kind) && is_tidy(o)
+    is_empty(o.kind)
+        && o.count == 0
+        && zeros_from(0, o.ins)
+        && zeros_from(0, o.outs)
+        && blanks_from(0, o.steps)
+        && o.variable == 0
+        && o.field == 0
 }

@@ -21,7 +21,7 @@ pub fn decimal(s: &[u8], at: usize, top: u32) -> Result<Read<u32>, Lost>
     ensures small { IfOk result (λ r. r.value ≤ top) }
 {
     let first = text_scan::here(s, at, b"0123456789")?;
-    Ok(text_scan::digits(s, first.at, first.value, top))
+    Ok(text_scan::digits(s, first.at, first.value as u32, top))
 }
 
 pub fn byte(s: &[u8], at: usize) -> Result<Read<u8>, Lost>
@@ -29,7 +29,7 @@ pub fn byte(s: &[u8], at: usize) -> Result<Read<u8>, Lost>
     ensures { Reads same s.now at byte result }
 {
     let first = text_scan::sign(s, at, b"0123456789")?;
-    let n = text_scan::digits(s, first.at, first.value, 255);
+    let n = text_scan::digits(s, first.at, first.value as u32, 255);
     Ok(Read {
         value: n.value as u8,
         at: n.at,
@@ -106,7 +106,7 @@ fn negative(s: &[u8], at: usize) -> Result<Read<u32>, Lost>
     ensures { Reads same s.now at negative result }
 {
     let first = text_scan::here(s, at, b"123456789")?;
-    let n = text_scan::digits(s, first.at, first.value, 2147483648);
+    let n = text_scan::digits(s, first.at, first.value as u32, 2147483648);
     Ok(Read {
         value: u32::MAX - n.value.saturating_sub(1),
         at: n.at,
@@ -122,5 +122,5 @@ pub fn number(s: &[u8], at: usize) -> Result<Read<u32>, Lost>
     if first.value == b'-' {
         return negative(s, first.at);
     }
-    Ok(text_scan::digits(s, first.at, first.value, 2147483647))
+    Ok(text_scan::digits(s, first.at, first.value as u32, 2147483647))
 }

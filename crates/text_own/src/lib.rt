@@ -31,7 +31,7 @@ pub fn outputs(t: Sheet) -> KeptNames
     let readers = run_reader::readers(t);
     let mut names = text_lists::no_names();
     for q in 0..t.queues {
-        let i = run_reader::reader_at(readers, q);
+        let i = run_reader::reader_at(&readers, q);
         let next = with_unread(names, q, i < sheet::OPERATORS);
         names = next;
     }

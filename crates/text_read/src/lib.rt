@@ -60,6 +60,8 @@ pub fn read(s: &[u8]) -> Result<Sheet, TextRefusal>
     let held = text_tree::operators(s, head.at)?;
     let h = head.value;
     let t = text_sheet::build(h.inputs.names, h.variables, held.value);
-    sheet::check(t)?;
-    with_lists(h, t)
+    match sheet::check(t) {
+        Ok(()) => with_lists(h, t),
+        Err(e) => Err(e.into()),
+    }
 }

@@ -78,20 +78,20 @@ fn is_digit(b: u8) -> bool
 }
 
 // The digit that a byte is, 0 for what lies below.
-fn digit(b: u8) -> u32
+fn digit(b: u32) -> u32
     ensures { result ≡ b - 48 }
 {
-    u32::from(b.saturating_sub(b'0'))
+    b.saturating_sub(48)
 }
 
 fn goes_on(top: u32, n: u32, b: u8) -> bool
     ensures { result ≡ goes_on top n b }
 {
-    is_digit(b) && n != 0 && 10 * u64::from(n) + u64::from(digit(b)) <= u64::from(top)
+    is_digit(b) && n != 0 && 10 * u64::from(n) + u64::from(digit(b as u32)) <= u64::from(top)
 }
 
 // The further digits of a number whose first digit's byte is `first`.
-pub fn digits(s: &[u8], from: usize, first: u8, top: u32) -> Read<u32>
+pub fn digits(s: &[u8], from: usize, first: u32, top: u32) -> Read<u32>
     requires { from ≤ length s.now }
     ensures { (result.at ≤ length s.now) × (got result.value (drop result.at s.now) ≡ digits top (first - 48) (drop from s.now)) }
 {
@@ -101,7 +101,7 @@ pub fn digits(s: &[u8], from: usize, first: u8, top: u32) -> Read<u32>
         if !goes_on(top, n, b) {
             return Read { value: n, at };
         }
-        n = 10 * n + digit(b);
+        n = 10 * n + digit(b as u32);
     }
     Read {
         value: n,

@@ -4,4 +4,4 @@ use Rattle.replay_printer.proofs.Printer.hex_into.Given as goal
 
 abbrev pub invariant-loop-b : goal.invariant-loop-b
 invariant-loop-b l =
-    (l.at ≡ l.initial.self.used + 2 * l.b-index) × (length l.self.out.now ≡ length l.initial.self.out.now) × (l.self.used ≡ l.initial.self.used)
+    (l.at ≡ l.initial.at + 2 * l.b-index) × (length l.out ≡ length l.initial.out)
