@@ -13,7 +13,7 @@ use lib.IntN.{ℤ, pos}
 use lib.Signed.{mag}
 use Rattle.base_lists.specs.Lists.{build, chain}
 use Rattle.sheet_operator.specs.Op.{Abstract}
-use Rattle.base_bounds.specs.Bounds.{VARIABLES, QUEUES, ROOM}
+use Rattle.base_bounds.specs.Bounds.{VARIABLES, QUEUES, ROOM, INPUT_BYTES}
 use Rattle.bench_lines.specs.Lines.{item_line, queue_lines, variable_lines, counts_line, LINE}
 use Rattle.bench_lines.proofs.Lengths.{item_short, variables_short, refusal_short, counts_short}
 use Rattle.run_store.specs.Queues.{Wide}
@@ -22,9 +22,9 @@ use Rattle.run_store.proofs.StoreLaws.{wide_at}
 use Rattle.run_machine.specs.Machine.{Machine, is_output}
 use Rattle.run_machine.specs.Numbers.{GoodM}
 use Rattle.run_machine.proofs.Sound.{Sound}
-use Rattle.bench_trial.specs.Trial.{Trial, trial_of, at_rest, outputs_at, outputs_of, variables_in}
+use Rattle.bench_trial.specs.Trial.{Trial, refusal, trial_of, at_rest, outputs_at, outputs_of, variables_in}
 use Rattle.bench_trial.proofs.Narrow.{NarrowM, NarrowQueue}
-use Rattle.bench_trial.proofs.Within.{Ended, Refused, trial_within}
+use Rattle.bench_trial.proofs.Within.{AFTER, Ended, Refused, trial_within}
 use Rattle.bench_report.specs.Print.{item_lines, printed, text_of}
 use Rattle.bench_report.specs.Reports.{TEXT}
 use Rattle.bench_report.proofs.Outputs.{chain_chain, lines_by}
@@ -105,13 +105,15 @@ ended_fits f h =
     subst (λ (g : Trial). length (printed g) ≤ TEXT) (sym h.same)
     (omega (arith, length-append (counts_line r.fired r.skipped rest) (items ++ vars), length-append items vars))
 
-refusal_fits : (f : Trial) → Refused f → length (printed f) ≤ TEXT
+-- a refusal of any small number and record
+refusal_fits : (f : Trial) (number spot : ℕ) → number ≤ 18 → spot ≤ INPUT_BYTES + INPUT_BYTES + AFTER → f ≡ refusal number spot →
+    length (printed f) ≤ TEXT
 unfolding printed
-refusal_fits f h =
-    let a = h.small in
-    let b = h.early in
-    subst (λ (g : Trial). length (printed g) ≤ TEXT) (sym h.same)
-    (omega (arith, refusal_short h.number h.spot (omega arith) (omega arith)))
+refusal_fits f number spot small early same =
+    subst (λ (g : Trial). length (printed g) ≤ TEXT) (sym same) (omega (arith, refusal_short number spot (omega arith) (omega arith)))
 
 pub text_fits : (s : List ℕ) → ((k : ℕ) → get_or s k 0 < 256) → length (text_of s) ≤ TEXT
-text_fits s below = ⊎_elim (ended_fits (trial_of s)) (refusal_fits (trial_of s)) (trial_within s below)
+text_fits s below =
+    ⊎_elim (ended_fits (trial_of s))
+    (λ (h : Refused (trial_of s)). refusal_fits (trial_of s) h.number h.spot h.small h.early h.same)
+    (trial_within s below)

@@ -40,14 +40,17 @@ not_shown (Ok x) s number spot e = absurd (accepted_apart number spot e)
 not_shown (Err d) s number spot e = tt
 
 module _ (f : Trial) (before : List ℤ) (r : Result Tried Refusal) (after : List ℤ) (h : Tries f before r after) where
-  -- ---- a refused input
+  -- ---- a refused input, whatever its number and record
 
-  module _ (q : Refused f) where
-    answered : paper r ≡ refused_at q.number q.spot
-    answered = h.answered ∙ ap answer_of q.same
+  module _ (number spot : ℕ) (same : f ≡ refusal number spot) where
+    answered : paper r ≡ refused_at number spot
+    answered = h.answered ∙ ap answer_of same
 
-    tells_refusal : told r after ≡ f
-    tells_refusal = told_refusal r after q.number q.spot answered ∙ sym q.same
+    pub tells_refusal : told r after ≡ f
+    tells_refusal = told_refusal r after number spot answered ∙ sym same
+
+    pub shows_refusal : IfOk r (λ (x : Tried). Shown x after)
+    shows_refusal = not_shown r after number spot answered
 
   -- ---- an input that is run
 
@@ -92,7 +95,7 @@ module _ (f : Trial) (before : List ℤ) (r : Result Tried Refusal) (after : Lis
     shown_end = rw (ran, stored) shown_as
 
   pub tells : Ended f ⊎ Refused f → told r after ≡ f
-  tells w = ⊎_elim tells_end tells_refusal w
+  tells w = ⊎_elim tells_end (λ (q : Refused f). tells_refusal q.number q.spot q.same) w
 
   pub shows : Ended f ⊎ Refused f → IfOk r (λ (x : Tried). Shown x after)
-  shows w = ⊎_elim shown_end (λ (q : Refused f). not_shown r after q.number q.spot (answered q)) w
+  shows w = ⊎_elim shown_end (λ (q : Refused f). shows_refusal q.number q.spot q.same) w
